@@ -1,0 +1,245 @@
+-- The reader's definition against document 01's direct statement: each test holds exactly where its claim does, so
+-- `readCosts` finds exactly what is to be found. Assumes nothing.
+use mathlib.Core.Path.{_≡_, refl, sym, ap, _∙_}
+use mathlib.Core.List.{List}
+use mathlib.Core.Bool.{Bool, true, false, cond, not, _&&_, _||_}
+use mathlib.Core.Logic.{⊎-elim}
+use Prim.Native.Nat.{ℕ, zero, suc, _+_, _-_, _*_, _%_, _≤_, _<_}
+use native.Mathlib.Nat.{mul-mod-right}
+use native.Mathlib.Omega.{arith}
+use lib.ListN.{length, getD, drop}
+use lib.Dec.{eqb, leb}
+use borrow.Author.Tests.{eq-eqb, ne-eqb, le-leb, eqb-true, eqb-false, leb-true}
+use Rattle.records.specs.declared.Board.{Board}
+use Rattle.records.specs.declared.Reading.{Reading}
+use Rattle.records.specs.declared.Refusal.{Refusal}
+use Rattle.records.specs.declared.Key.{Key}
+use Rattle.records.specs.Costs.{mostTasks, mostCores, mostValue, byteAt, valueAt, key, dueKeys, countOf, keyMeets, valueMeets, faultAt, firstFault, accepted, refused, lengthMeets, headMeets, boardOf, boardMeets, readRecords, readHead, readCosts}
+use Rattle.records.specs.Format.{Bears, InRange, Whole, Headed, Ranged, Long, dueAt, RightBelow, IsCosts, Framed, Finds, Finds.costs, Finds.length-wrong, Finds.head-wrong, Finds.board-wrong, Finds.count-wrong, Finds.key-wrong, Finds.value-wrong}
+use Rattle.records.proofs.Cases.{true-or-false, true-not-false, false-unless, and-true, or-right, or-unless}
+use Rattle.records.proofs.Listing.{keys-count}
+use Rattle.records.proofs.Walk.{faultOf, Scanned, Scanned.clean, Scanned.found, scanned, scanned-only}
+
+-- ---- one record
+
+module _ (s : List ℕ) (n : ℕ) (d : Key) where
+  meets-bears : keyMeets s n d ≡ true → Bears s n d
+  unfolding keyMeets
+  meets-bears e =
+      let h₃ = and-true _ _ e in
+      let h₂ = and-true _ _ (h₃ .0) in
+      let h₁ = and-true _ _ (h₂ .0) in
+      record {
+        kind = eqb-true _ _ (h₁ .0);
+        task = eqb-true _ _ (h₁ .1);
+        a = λ other. eqb-true _ _ (or-right (eqb (d .kind) 2) _ (h₃ .1) (ne-eqb (d .kind) 2 other));
+        b = eqb-true _ _ (h₂ .1);
+      }
+
+  bears-meets : Bears s n d → keyMeets s n d ≡ true
+  unfolding keyMeets
+  bears-meets h =
+      simp (eq-eqb (byteAt s n 0) (d .kind) (h .kind), eq-eqb (byteAt s n 1) (d .task) (h .task), eq-eqb (byteAt s n 3) (d .b) (h .b))
+      (or-unless (eqb (d .kind) 2) (eqb (byteAt s n 2) (d .a)) (λ f. eq-eqb _ _ (h .a (eqb-false (d .kind) 2 f))))
+
+  meets-in-range : valueMeets s n d ≡ true → InRange s n d
+  unfolding valueMeets
+  meets-in-range e =
+      let h = and-true _ _ e in
+      record {
+        value = leb-true _ _ (h .0);
+        flag = λ two. leb-true _ _ (or-right (not (eqb (d .kind) 2)) _ (h .1) (simp (eq-eqb (d .kind) 2 two)));
+      }
+
+  in-range-meets : InRange s n d → valueMeets s n d ≡ true
+  unfolding valueMeets
+  in-range-meets h =
+      simp (le-leb (valueAt s n) mostValue (h .value))
+      (or-unless (not (eqb (d .kind) 2)) (leb (byteAt s n 2) 1) (λ f. le-leb _ _ (h .flag (two f))))
+    where
+      two : not (eqb (d .kind) 2) ≡ false → d .kind ≡ 2
+      two f = ⊎-elim (λ t. eqb-true _ _ t) (λ (t : eqb (d .kind) 2 ≡ false). true-not-false (not (eqb (d .kind) 2)) (simp t) f) (true-or-false (eqb (d .kind) 2))
+
+  right-no-fault : Bears s n d → InRange s n d → faultAt s n d ≡ 0
+  unfolding faultAt
+  right-no-fault b r = simp (bears-meets b, in-range-meets r)
+
+  key-fault : (Bears s n d → ⊥) → faultAt s n d ≡ 5
+  unfolding faultAt
+  key-fault b = simp (false-unless (keyMeets s n d) meets-bears b)
+
+  value-fault : Bears s n d → (InRange s n d → ⊥) → faultAt s n d ≡ 6
+  unfolding faultAt
+  value-fault b r = simp (bears-meets b, false-unless (valueMeets s n d) meets-in-range r)
+
+  no-fault-right : faultAt s n d ≡ 0 → Bears s n d × InRange s n d
+  no-fault-right e = ⊎-elim
+      (λ t. ⊎-elim
+      (λ u. (meets-bears t, meets-in-range u))
+      (λ u. absurd (omega (arith, sym (value-fault (meets-bears t) (λ r. true-not-false _ (in-range-meets r) u)) ∙ e)))
+      (true-or-false (valueMeets s n d)))
+      (λ t. absurd (omega (arith, sym (key-fault (λ b. true-not-false _ (bears-meets b) t)) ∙ e)))
+      (true-or-false (keyMeets s n d))
+
+-- ---- what stands before the walk
+
+meets-whole : (s : List ℕ) → lengthMeets s ≡ true → Whole s
+unfolding lengthMeets
+meets-whole s e = let h = and-true _ _ e in record { some = leb-true _ _ (h .0); whole = eqb-true _ _ (h .1) }
+
+whole-meets : (s : List ℕ) → Whole s → lengthMeets s ≡ true
+unfolding lengthMeets
+whole-meets s h = simp (le-leb 8 (length s) (h .some), eq-eqb (length s % 8) 0 (h .whole))
+
+meets-headed : (s : List ℕ) → headMeets s ≡ true → Headed s
+unfolding headMeets
+meets-headed s e = let h = and-true _ _ e in record { kind = eqb-true _ _ (h .0); task = eqb-true _ _ (h .1) }
+
+headed-meets : (s : List ℕ) → Headed s → headMeets s ≡ true
+unfolding headMeets
+headed-meets s h = simp (eq-eqb (byteAt s 0 0) 1 (h .kind), eq-eqb (byteAt s 0 1) 0 (h .task))
+
+pub meets-ranged : (b : Board) → boardMeets b ≡ true → Ranged b
+unfolding boardMeets
+meets-ranged b e =
+    let h₅ = and-true _ _ e in
+    let h₄ = and-true _ _ (h₅ .0) in
+    let h₃ = and-true _ _ (h₄ .0) in
+    let h₂ = and-true _ _ (h₃ .0) in
+    let h₁ = and-true _ _ (h₂ .0) in
+    record {
+      some-cores = leb-true _ _ (h₁ .0);
+      most-cores = leb-true _ _ (h₁ .1);
+      some-tasks = leb-true _ _ (h₂ .1);
+      most-tasks = leb-true _ _ (h₃ .1);
+      some-capacity = leb-true _ _ (h₄ .1);
+      most-capacity = leb-true _ _ (h₅ .1);
+    }
+
+ranged-meets : (b : Board) → Ranged b → boardMeets b ≡ true
+unfolding boardMeets
+ranged-meets b h =
+    simp (
+      le-leb 1 (b .cores) (h .some-cores),
+      le-leb (b .cores) mostCores (h .most-cores),
+      le-leb 1 (b .tasks) (h .some-tasks),
+      le-leb (b .tasks) mostTasks (h .most-tasks),
+      le-leb 1 (b .capacity) (h .some-capacity),
+      le-leb (b .capacity) mostValue (h .most-capacity),
+    )
+
+pub some-records : (k p : ℕ) → 1 ≤ countOf k p
+unfolding countOf
+some-records k p = omega arith
+
+-- ---- what reading finds is to be found
+
+module _ (s : List ℕ) where
+  b : Board
+  b = boardOf s
+
+  keys : List Key
+  unfolding b
+  keys = dueKeys (b .tasks) (b .cores)
+
+  right-below : (n : ℕ) → ((i : ℕ) → 1 ≤ i → i < n → faultOf s keys i ≡ 0) → RightBelow s b n
+  unfolding keys b
+  right-below n h i l u = no-fault-right s i (dueAt b i) (h i l u)
+
+  walked : Framed s → (f : Refusal) → Scanned s keys 1 f → Finds s (cond (eqb (f .number) 0) (accepted b) (refused (f .number) (f .place)))
+  unfolding keys b
+  walked g f (clean h) =
+      costs b (record {
+        headed = g .headed;
+        board = refl;
+        ranged = g .ranged;
+        long = g .long;
+        right = right-below (countOf (b .tasks) (b .cores)) (λ i l u. h i l (omega (arith, keys-count (b .tasks) (b .cores))));
+      })
+  walked g f (found i l u h z) = ⊎-elim
+      (λ t. ⊎-elim
+      (λ v. absurd (z (right-no-fault s i (dueAt b i) (meets-bears s i (dueAt b i) t) (meets-in-range s i (dueAt b i) v))))
+      (λ v. let r : InRange s i (dueAt b i) → ⊥ = λ r. true-not-false _ (in-range-meets s i (dueAt b i) r) v in
+      rw (value-fault s i (dueAt b i) (meets-bears s i (dueAt b i) t) r)
+      (value-wrong i g l inside before (meets-bears s i (dueAt b i) t) r))
+      (true-or-false (valueMeets s i (dueAt b i))))
+      (λ t. let r : Bears s i (dueAt b i) → ⊥ = λ r. true-not-false _ (bears-meets s i (dueAt b i) r) t in
+      rw (key-fault s i (dueAt b i) r) (key-wrong i g l inside before r))
+      (true-or-false (keyMeets s i (dueAt b i)))
+    where
+      inside : i < countOf (b .tasks) (b .cores)
+      inside = omega (arith, keys-count (b .tasks) (b .cores))
+
+      before : RightBelow s b i
+      before = right-below i h
+
+  long-finds : Whole s → Headed s → Ranged b → Finds s (readRecords s b)
+  unfolding readRecords keys b
+  long-finds w h r = ⊎-elim
+      (λ t. rw t (walked (record { whole = w; headed = h; ranged = r; long = eqb-true _ _ t }) (firstFault s 1 (drop 1 keys))
+      (scanned s keys 1 (omega (arith, keys-count (b .tasks) (b .cores), some-records (b .tasks) (b .cores))))))
+      (λ t. rw t (count-wrong w h r (eqb-false _ _ t)))
+      (true-or-false (eqb (length s) (8 * countOf (b .tasks) (b .cores))))
+
+  head-finds : Whole s → Finds s (readHead s)
+  unfolding readHead b
+  head-finds w = ⊎-elim
+      (λ (t : headMeets s ≡ true). ⊎-elim
+      (λ (u : boardMeets b ≡ true). rw (t, u) (long-finds w (meets-headed s t) (meets-ranged b u)))
+      (λ (u : boardMeets b ≡ false). rw (t, u) (board-wrong w (meets-headed s t) (λ r. true-not-false _ (ranged-meets b r) u)))
+      (true-or-false (boardMeets b)))
+      (λ t. rw t (head-wrong w (λ h. true-not-false _ (headed-meets s h) t)))
+      (true-or-false (headMeets s))
+
+  pub reads : Finds s (readCosts s)
+  unfolding readCosts
+  reads = ⊎-elim
+      (λ t. rw t (head-finds (meets-whole s t)))
+      (λ t. rw t (length-wrong (λ w. true-not-false _ (whole-meets s w) t)))
+      (true-or-false (lengthMeets s))
+
+  -- ---- what is to be found, reading finds
+
+  framed-reads : (f : Refusal) → Framed s → Scanned s keys 1 f → readCosts s ≡ cond (eqb (f .number) 0) (accepted b) (refused (f .number) (f .place))
+  unfolding readCosts readHead readRecords keys b
+  framed-reads f g h =
+      let e = scanned-only s keys 1 f (omega (arith, keys-count (b .tasks) (b .cores), some-records (b .tasks) (b .cores))) h in
+      simp (whole-meets s (g .whole), headed-meets s (g .headed), ranged-meets b (g .ranged), eq-eqb (length s) (8 * countOf (b .tasks) (b .cores)) (g .long), e)
+
+  costs-whole : Long s b → Whole s
+  unfolding b
+  costs-whole h = record { some = omega (arith, some-records (b .tasks) (b .cores)); whole = rw h (mul-mod-right 8 (countOf (b .tasks) (b .cores))) }
+
+  costs-reads : IsCosts s b → readCosts s ≡ accepted b
+  unfolding keys b
+  costs-reads c =
+      framed-reads (record { number = 0; place = 0 }) (record { whole = costs-whole (c .long); headed = c .headed; ranged = c .ranged; long = c .long })
+      (clean (λ i l u. let r = c .right i l (omega (arith, keys-count (b .tasks) (b .cores))) in right-no-fault s i (dueAt b i) (r .0) (r .1)))
+
+  module _ (n : ℕ) (g : Framed s) (l : 1 ≤ n) (u : n < countOf (b .tasks) (b .cores)) (before : RightBelow s b n) where
+    fault-reads : (number : ℕ) → faultAt s n (dueAt b n) ≡ suc number → readCosts s ≡ refused (suc number) (n + 1)
+    unfolding keys b
+    fault-reads number e =
+        framed-reads (record { number = faultOf s keys n; place = n + 1 }) g
+        (found n l (omega (arith, keys-count (b .tasks) (b .cores)))
+        (λ j p q. let r = before j p q in right-no-fault s j (dueAt b j) (r .0) (r .1)) (λ z. omega (arith, sym e ∙ z)))
+        ∙ rw e (simp (ne-eqb (suc number) 0 (λ z. omega arith)))
+
+  pub reads-only : (r : Reading) → Finds s r → readCosts s ≡ r
+  unfolding b readCosts readHead readRecords
+  reads-only r (costs c h) = rw (h .board) (costs-reads (rw (h .board) at h))
+  reads-only r (length-wrong w) = simp (false-unless (lengthMeets s) (meets-whole s) w)
+  reads-only r (head-wrong w h) = simp (whole-meets s w, false-unless (headMeets s) (meets-headed s) h)
+  reads-only r (board-wrong w h g) = simp (whole-meets s w, headed-meets s h, false-unless (boardMeets b) (meets-ranged b) g)
+  reads-only r (count-wrong w h g c) = simp (whole-meets s w, headed-meets s h, ranged-meets b g, ne-eqb (length s) (8 * countOf (b .tasks) (b .cores)) c)
+  reads-only r (key-wrong n g l u before k) = fault-reads n g l u before 4 (key-fault s n (dueAt b n) k)
+  reads-only r (value-wrong n g l u before k v) = fault-reads n g l u before 5 (value-fault s n (dueAt b n) k v)
+
+  pub finds-costs : (r : Reading) → Finds s r → r .number ≡ 0 → IsCosts s (r .board)
+  finds-costs r (costs c h) e = h
+  finds-costs r (length-wrong w) e = absurd (omega arith)
+  finds-costs r (head-wrong w h) e = absurd (omega arith)
+  finds-costs r (board-wrong w h g) e = absurd (omega arith)
+  finds-costs r (count-wrong w h g c) e = absurd (omega arith)
+  finds-costs r (key-wrong n g l u before k) e = absurd (omega arith)
+  finds-costs r (value-wrong n g l u before k v) e = absurd (omega arith)

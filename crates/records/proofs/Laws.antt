@@ -1,0 +1,77 @@
+-- What holds of cost records (document 01, "Cost records", refusals 1 to 6): the laws that a reader looks for, and that the
+-- layers above cite. The definitions are in specs/Costs and specs/Format. Assumes nothing.
+use mathlib.Core.Path.{_≡_, refl}
+use mathlib.Core.List.{List}
+use mathlib.Core.Logic.{_↔_}
+use Prim.Native.Nat.{ℕ, _≤_, _<_}
+use lib.ListN.{length, getD}
+use lib.Dec.{eqb}
+use Rattle.records.specs.declared.Board.{Board}
+use Rattle.records.specs.declared.Reading.{Reading}
+use Rattle.records.specs.declared.Key.{Key}
+use Rattle.records.specs.Costs.{mostValue, byteAt, valueAt, key, dueKeys, dueKey, countOf, accepted, readCosts, needOf, replicableOf, executionOf, internalOf, pairOf, externalOf}
+use Rattle.records.specs.Format.{Ranged, Long, IsCosts, Finds, Finds.costs, RecordSays}
+use Rattle.records.proofs.Exact as exact
+use Rattle.records.proofs.Listing as listing
+use Rattle.records.proofs.Looked as looked
+
+-- ---- the due keys, for every k and P: as many as stated, the first is the board's, and each later one is the computed one
+
+module _ (k p : ℕ) (none : Key) where
+  pub keys-count : length (dueKeys k p) ≡ countOf k p
+  keys-count = listing.keys-count k p
+
+  pub key-first : getD (dueKeys k p) 0 none ≡ key 1 0 p k
+  unfolding dueKeys
+  key-first = refl
+
+  pub key-at : (n : ℕ) → 1 ≤ n → n < countOf k p → getD (dueKeys k p) n none ≡ dueKey k p n
+  key-at = listing.key-at k p none
+
+-- ---- reading: exactly what document 01 describes is accepted, and each refusal is due exactly under its condition
+
+pub read-exactly : (s : List ℕ) (r : Reading) → (readCosts s ≡ r) ↔ Finds s r
+read-exactly s r = (λ e. rw e at (exact.reads s), exact.reads-only s r)
+
+pub read-accepts : (s : List ℕ) (b : Board) → (readCosts s ≡ accepted b) ↔ IsCosts s b
+read-accepts s b = (λ e. exact.finds-costs s (accepted b) (read-exactly s (accepted b) .0 e) refl, λ c. exact.reads-only s (accepted b) (costs b c))
+
+-- number 0 means accepted: the board is in range, and the length is that of its count
+pub accepted-costs : (s : List ℕ) → readCosts s .number ≡ 0 → IsCosts s (readCosts s .board)
+accepted-costs s = exact.finds-costs s (readCosts s) (exact.reads s)
+
+pub accepted-ranges : (s : List ℕ) → readCosts s .number ≡ 0 → Ranged (readCosts s .board) × Long s (readCosts s .board)
+accepted-ranges s e = let c = accepted-costs s e in (c .ranged, c .long)
+
+-- ---- lookups in a board's costs
+
+module _ (s : List ℕ) (b : Board) (c : IsCosts s b) where
+  -- each is what the one record says that bears the key
+  pub need-says : (t : ℕ) → 1 ≤ t → t ≤ b .tasks → RecordSays s b (key 2 t 0 0) (valueAt s) (needOf s b t)
+  need-says = looked.need-says s b c
+
+  pub replicable-says : (t : ℕ) → 1 ≤ t → t ≤ b .tasks → RecordSays s b (key 2 t 0 0) (λ n. eqb (byteAt s n 2) 1) (replicableOf s b t)
+  replicable-says = looked.replicable-says s b c
+
+  pub execution-says : (t p : ℕ) → 1 ≤ t → 1 ≤ p → p ≤ b .cores → t ≤ b .tasks → RecordSays s b (key 3 t p 0) (valueAt s) (executionOf s b t p)
+  execution-says = looked.execution-says s b c
+
+  pub internal-says : (t p : ℕ) → 1 ≤ t → 1 ≤ p → p ≤ b .cores → t < b .tasks → RecordSays s b (key 4 t p 0) (valueAt s) (internalOf s b t p)
+  internal-says = looked.internal-says s b c
+
+  pub external-says : (t : ℕ) → 1 ≤ t → t < b .tasks → (x q : ℕ) → 1 ≤ x → x ≤ b .cores → 1 ≤ q → q ≤ b .cores
+      → RecordSays s b (key 5 t x q) (valueAt s) (externalOf (pairOf s b t) (b .cores) x q)
+  external-says = looked.external-says s b c
+
+  -- and none, at any numbers, is above the most value
+  pub need-most : (t : ℕ) → needOf s b t ≤ mostValue
+  need-most = looked.need-most s b c
+
+  pub execution-most : (t p : ℕ) → executionOf s b t p ≤ mostValue
+  execution-most = looked.execution-most s b c
+
+  pub internal-most : (t p : ℕ) → internalOf s b t p ≤ mostValue
+  internal-most = looked.internal-most s b c
+
+  pub external-most : (t x q : ℕ) → externalOf (pairOf s b t) (b .cores) x q ≤ mostValue
+  external-most = looked.external-most s b c

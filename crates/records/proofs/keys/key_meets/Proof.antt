@@ -1,0 +1,96 @@
+-- `key_meets` is `keyMeets`: each branch says what one more of its tests is.
+use mathlib.Core.Path.{sym, _∙_}
+use borrow.Author.Tests.{eq-eqb, ne-eqb}
+use Rattle.records.specs.Costs.{keyMeets}
+use borrow.Author.Needs.{needs}
+use Rattle.records.proofs.keys.key_meets.Statement.{statement}
+use Rattle.records.proofs.keys.key_meets.Tie as tie
+
+byte-at-requires : tie.Need-byte-at-requires
+byte-at-requires c κs = search needs
+
+returns : tie.Need-returns
+unfolding keyMeets
+returns c = simp (← (c .before .before .byte-at .ensures .0), ne-eqb _ _ (c .if1 .taken))
+
+byte-at-requires-2 : tie.Need-byte-at-requires-2
+byte-at-requires-2 c κs = search needs
+
+returns-2 : tie.Need-returns-2
+unfolding keyMeets
+returns-2 c =
+    let first = c .before .before .before in
+    simp (
+      ← (first .before .before .byte-at .ensures .0),
+      eq-eqb _ _ (first .if1 .left),
+      ← (c .before .before .byte-at2 .ensures .0),
+      ne-eqb _ _ (c .if2 .taken),
+    )
+
+byte-at-requires-3 : tie.Need-byte-at-requires-3
+byte-at-requires-3 c κs = search needs
+
+returns-3 : tie.Need-returns-3
+unfolding keyMeets
+returns-3 c =
+    let second = c .before .before .before in
+    let first = second .before .before .before in
+    simp (
+      ← (first .before .before .byte-at .ensures .0),
+      eq-eqb _ _ (first .if1 .left),
+      ← (second .before .before .byte-at2 .ensures .0),
+      eq-eqb _ _ (second .if2 .left),
+      ← (c .before .before .byte-at3 .ensures .0),
+      ne-eqb _ _ (c .if3 .taken),
+    )
+
+returns-4 : tie.Need-returns-4
+unfolding keyMeets
+returns-4 c =
+    let third = c .before in
+    let second = third .before .before .before in
+    let first = second .before .before .before in
+    let two = sym (first .if1 .left) ∙ c .if4 .taken in
+    simp (
+      ← (first .before .before .byte-at .ensures .0),
+      eq-eqb _ _ (first .if1 .left),
+      ← (second .before .before .byte-at2 .ensures .0),
+      eq-eqb _ _ (second .if2 .left),
+      ← (third .before .before .byte-at3 .ensures .0),
+      eq-eqb _ _ (third .if3 .left),
+      eq-eqb _ _ two,
+    )
+
+byte-at-requires-4 : tie.Need-byte-at-requires-4
+byte-at-requires-4 c κs = search needs
+
+returns-5 : tie.Need-returns-5
+unfolding keyMeets
+returns-5 c =
+    let third = c .before .before .before in
+    let second = third .before .before .before in
+    let first = second .before .before .before in
+    simp (
+      ← (first .before .before .byte-at .ensures .0),
+      eq-eqb _ _ (first .if1 .left),
+      ← (second .before .before .byte-at2 .ensures .0),
+      eq-eqb _ _ (second .if2 .left),
+      ← (third .before .before .byte-at3 .ensures .0),
+      eq-eqb _ _ (third .if3 .left),
+      ne-eqb _ _ (λ e. c .before .before .if4 .left (first .if1 .left ∙ e)),
+      ← (c .before .byte-at4 .ensures .0),
+    )
+
+pub key-meets-spec : {M : Type 1} → statement M
+key-meets-spec =
+    tie.close
+    (tie.spec
+    byte-at-requires
+    returns
+    byte-at-requires-2
+    returns-2
+    byte-at-requires-3
+    returns-3
+    returns-4
+    byte-at-requires-4
+    returns-5)

@@ -1,0 +1,88 @@
+-- Document 01's cost records as a direct statement, beside the reader's definition of `Costs`: which byte strings are a
+-- board's costs, and when each refusal is due. Assumes nothing.
+use mathlib.Core.Path.{_≡_}
+use mathlib.Core.List.{List}
+use Prim.Native.Nat.{ℕ, _+_, _*_, _%_, _≤_, _<_}
+use lib.ListN.{length, getD}
+use Rattle.records.specs.declared.Board.{Board}
+use Rattle.records.specs.declared.Reading.{Reading}
+use Rattle.records.specs.declared.Key.{Key}
+use Rattle.records.specs.Costs.{mostTasks, mostCores, mostValue, byteAt, valueAt, key, dueKeys, countOf, boardOf, accepted, refused}
+
+-- record n of s has that kind, task, a and b, the flag of kind 2 aside
+pub record Bears (s : List ℕ) (n : ℕ) (d : Key) : Type 0 where
+  pub kind : byteAt s n 0 ≡ d .kind
+  pub task : byteAt s n 1 ≡ d .task
+  pub a : (d .kind ≡ 2 → ⊥) → byteAt s n 2 ≡ d .a
+  pub b : byteAt s n 3 ≡ d .b
+
+-- its value is in range and, of kind 2, its flag
+pub record InRange (s : List ℕ) (n : ℕ) (d : Key) : Type 0 where
+  pub value : valueAt s n ≤ mostValue
+  pub flag : d .kind ≡ 2 → byteAt s n 2 ≤ 1
+
+-- whole records, one at least
+pub record Whole (s : List ℕ) : Type 0 where
+  pub some : 8 ≤ length s
+  pub whole : length s % 8 ≡ 0
+
+-- the first record is the board's
+pub record Headed (s : List ℕ) : Type 0 where
+  pub kind : byteAt s 0 0 ≡ 1
+  pub task : byteAt s 0 1 ≡ 0
+
+-- a board in range
+pub record Ranged (b : Board) : Type 0 where
+  pub some-cores : 1 ≤ b .cores
+  pub most-cores : b .cores ≤ mostCores
+  pub some-tasks : 1 ≤ b .tasks
+  pub most-tasks : b .tasks ≤ mostTasks
+  pub some-capacity : 1 ≤ b .capacity
+  pub most-capacity : b .capacity ≤ mostValue
+
+-- the length is that of the stated count
+abbrev pub Long : List ℕ → Board → Type 0
+Long s b = length s ≡ 8 * countOf (b .tasks) (b .cores)
+
+-- the key that is due at record n
+abbrev pub dueAt : Board → ℕ → Key
+dueAt b n = getD (dueKeys (b .tasks) (b .cores)) n (key 0 0 0 0)
+
+-- the records from the second up to n bear their keys and are in range
+abbrev pub RightBelow : List ℕ → Board → ℕ → Type 0
+RightBelow s b n = (i : ℕ) → 1 ≤ i → i < n → Bears s i (dueAt b i) × InRange s i (dueAt b i)
+
+-- s is the costs of the board b: right length, first record, every key due, every value in range
+pub record IsCosts (s : List ℕ) (b : Board) : Type 0 where
+  pub headed : Headed s
+  pub board : b ≡ boardOf s
+  pub ranged : Ranged b
+  pub long : Long s b
+  pub right : RightBelow s b (countOf (b .tasks) (b .cores))
+
+-- s passes what is tested before the walk over its records
+pub record Framed (s : List ℕ) : Type 0 where
+  pub whole : Whole s
+  pub headed : Headed s
+  pub ranged : Ranged (boardOf s)
+  pub long : Long s (boardOf s)
+
+-- what reading s is to find, each refusal under its condition and with its place
+pub data Finds (s : List ℕ) : Reading → Type 0 where
+  costs : (b : Board) → IsCosts s b → Finds s (accepted b)
+  length-wrong : (Whole s → ⊥) → Finds s (refused 1 0)
+  head-wrong : Whole s → (Headed s → ⊥) → Finds s (refused 2 0)
+  board-wrong : Whole s → Headed s → (Ranged (boardOf s) → ⊥) → Finds s (refused 3 0)
+  count-wrong : Whole s → Headed s → Ranged (boardOf s) → (Long s (boardOf s) → ⊥) → Finds s (refused 4 0)
+  key-wrong : (n : ℕ) → Framed s → 1 ≤ n → n < countOf (boardOf s .tasks) (boardOf s .cores) → RightBelow s (boardOf s) n
+      → (Bears s n (dueAt (boardOf s) n) → ⊥) → Finds s (refused 5 (n + 1))
+  value-wrong : (n : ℕ) → Framed s → 1 ≤ n → n < countOf (boardOf s .tasks) (boardOf s .cores) → RightBelow s (boardOf s) n
+      → Bears s n (dueAt (boardOf s) n) → (InRange s n (dueAt (boardOf s) n) → ⊥) → Finds s (refused 6 (n + 1))
+
+-- v is what the one record of the board b's costs that bears the key d says, by the reading `of` of a record
+pub record RecordSays (s : List ℕ) (b : Board) (d : Key) {A : Type 0} (of : ℕ → A) (v : A) : Type 0 where
+  pub place : ℕ
+  pub there : place < countOf (b .tasks) (b .cores)
+  pub bears : Bears s place d
+  pub alone : (n : ℕ) → n < countOf (b .tasks) (b .cores) → Bears s n d → n ≡ place
+  pub says : v ≡ of place

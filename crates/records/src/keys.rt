@@ -1,0 +1,122 @@
+// The due keys of a file by their place, and the test of one record against a due key.
+ghost use mathlib.Core.Path.{_≡_};
+ghost use Prim.Native.Nat.{_≤_};
+ghost use Rattle.records.specs.Costs.{dueKey, keyMeets, valueMeets, faultAt, countOf};
+use crate::Key;
+use crate::bytes::byte_at;
+use crate::bytes::value_at;
+use crate::bytes::wide;
+
+// The most that a value of any kind may be, in KiB or ticks.
+pub(crate) const MOST_VALUE: u32 = 1000000;
+
+// How many records a file of k tasks and p cores has.
+pub fn count(k: u8, p: u8) -> u32
+    ensures { λ r. ⌜ r ≡ countOf k p ⌝ }
+{
+    if k < 1 {
+        return 1;
+    }
+    let tasks = wide(k);
+    let cores = wide(p);
+    let pairs = tasks - 1;
+    let square = cores * cores;
+    1 + tasks + tasks * cores + pairs * cores + pairs * square
+}
+
+// The key that record n is to have in a file of k tasks and p cores, by its place: m among the records after the first,
+// e among those after kind 2, t after kind 3 and x after kind 4.
+pub(crate) fn due(k: u8, p: u8, n: u32) -> Key
+    requires { ⌜ (1 ≤ k) × (1 ≤ p) × (1 ≤ n) ⌝ }
+    ensures { λ r. ⌜ r ≡ dueKey k p n ⌝ }
+{
+    let tasks = wide(k);
+    let cores = wide(p);
+    let executions = tasks * cores;
+    let transfers = (tasks - 1) * cores;
+    let m = n - 1;
+    if m < tasks {
+        return Key {
+            kind: 2,
+            task: n,
+            a: 0,
+            b: 0,
+        };
+    }
+    let e = m - tasks;
+    if e < executions {
+        return Key {
+            kind: 3,
+            task: e / cores + 1,
+            a: e % cores + 1,
+            b: 0,
+        };
+    }
+    let t = e - executions;
+    if t < transfers {
+        return Key {
+            kind: 4,
+            task: t / cores + 1,
+            a: t % cores + 1,
+            b: 0,
+        };
+    }
+    let x = t - transfers;
+    let square = cores * cores;
+    let y = x % square;
+    Key {
+        kind: 5,
+        task: x / square + 1,
+        a: y / cores + 1,
+        b: y % cores + 1,
+    }
+}
+
+// Whether the first four bytes of record n are the key, the flag of kind 2 aside.
+fn key_meets(costs: &[u8], n: u32, key: Key) -> bool
+    ensures { λ r. ⌜ r ≡ keyMeets (now (costs .entry)) n key ⌝ }
+{
+    let kind = byte_at(costs, n, 0);
+    if kind != key.kind {
+        return false;
+    }
+    let task = byte_at(costs, n, 1);
+    if task != key.task {
+        return false;
+    }
+    let b = byte_at(costs, n, 3);
+    if b != key.b {
+        return false;
+    }
+    if kind == 2 {
+        return true;
+    }
+    let a = byte_at(costs, n, 2);
+    a == key.a
+}
+
+// Whether the value of record n is in range and, where the key is of kind 2, the flag too.
+fn value_meets(costs: &[u8], n: u32, key: Key) -> bool
+    ensures { λ r. ⌜ r ≡ valueMeets (now (costs .entry)) n key ⌝ }
+{
+    let value = value_at(costs, n);
+    if MOST_VALUE < value {
+        return false;
+    }
+    if key.kind != 2 {
+        return true;
+    }
+    let flag = byte_at(costs, n, 2);
+    flag <= 1
+}
+
+// The refusal that record n deserves where the key is due: 5, 6 or, for none, 0.
+pub fn fault(costs: &[u8], n: u32, key: Key) -> u32
+    ensures { λ r. ⌜ r ≡ faultAt (now (costs .entry)) n key ⌝ }
+{
+    if key_meets(costs, n, key) {
+        if value_meets(costs, n, key) { 0 } else { 6 }
+    } else {
+        5
+    }
+}

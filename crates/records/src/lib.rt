@@ -1,0 +1,48 @@
+// Cost records (document 01, "Cost records"): a board's costs as fixed records of 8 bytes, each a kind, a task, a, b and
+// a value of four bytes, lowest first.
+//
+// `read` says whether a byte string is a board's costs, or which of refusals 1 to 6 is due; the others look one cost up in
+// the caller's bytes. No public function has a `requires`: each answers for every slice and every number.
+// Tasks and cores are counted from 1, in one byte each, so that no place in a file can overflow.
+mod bytes;
+mod keys;
+mod lookup;
+mod scan;
+
+pub use keys::count;
+pub use keys::fault;
+pub use lookup::execution;
+pub use lookup::external;
+pub use lookup::internal;
+pub use lookup::need;
+pub use lookup::pair;
+pub use lookup::replicable;
+pub use scan::read;
+
+// The board of document 01: its k tasks, its P cores and the capacity of a core in KiB.
+pub struct Board {
+    pub tasks: u8,
+    pub cores: u8,
+    pub capacity: u32,
+}
+
+// What reading finds: number 0 and the board, or the number of a refusal with its place and a board of zeros.
+pub struct Reading {
+    pub number: u32,
+    pub place: u32,
+    pub board: Board,
+}
+
+// A refusal's number and place, or 0 and 0 for none.
+pub struct Refusal {
+    pub number: u32,
+    pub place: u32,
+}
+
+// What the first four bytes of a record are to be.
+pub struct Key {
+    pub kind: u32,
+    pub task: u32,
+    pub a: u32,
+    pub b: u32,
+}

@@ -1,0 +1,125 @@
+// Lookups in the caller's bytes. Each is total: a task or a number of cores that the board does not have gives 0, `false`
+// or an empty part. On accepted costs each is the value of the record that bears the key.
+ghost use mathlib.Core.Path.{_≡_};
+ghost use Prim.Native.Nat.{_≤_, _<_};
+ghost use Rattle.records.specs.Costs.{within, hasNext, needOf, replicableOf, cellOf, executionOf, internalOf, pairPlace, pairOf, externalOf};
+use crate::Board;
+use crate::bytes::byte_at;
+use crate::bytes::value_at;
+use crate::bytes::wide;
+
+// Whether i is one of 1 to top.
+fn is_within(i: u8, top: u8) -> bool
+    ensures { λ r. ⌜ r ≡ within i top ⌝ }
+{
+    if i < 1 {
+        return false;
+    }
+    i <= top
+}
+
+// Whether the task is one of the chain's and another follows it.
+fn has_next(task: u8, tasks: u8) -> bool
+    ensures { λ r. ⌜ r ≡ hasNext task tasks ⌝ }
+{
+    if task < 1 {
+        return false;
+    }
+    task < tasks
+}
+
+// The place of row i and column j, each counted from 1, among rows of that width.
+fn cell(i: u8, j: u8, width: u8) -> u32
+    requires { ⌜ (1 ≤ i) × (1 ≤ j) ⌝ }
+    ensures { λ r. ⌜ (r ≡ cellOf width i j) × (r < 65536) ⌝ }
+{
+    (wide(i) - 1) * wide(width) + (wide(j) - 1)
+}
+
+// The memory need of a task, in KiB.
+pub fn need(costs: &[u8], board: Board, task: u8) -> u32
+    ensures { λ r. ⌜ r ≡ needOf (now (costs .entry)) board task ⌝ }
+{
+    if is_within(task, board.tasks) {
+        value_at(costs, wide(task))
+    } else {
+        0
+    }
+}
+
+// Whether a task is marked as replicable.
+pub fn replicable(costs: &[u8], board: Board, task: u8) -> bool
+    ensures { λ r. ⌜ r ≡ replicableOf (now (costs .entry)) board task ⌝ }
+{
+    if is_within(task, board.tasks) {
+        let flag = byte_at(costs, wide(task), 2);
+        flag == 1
+    } else {
+        false
+    }
+}
+
+// The execution time of a task at p cores, in ticks.
+pub fn execution(costs: &[u8], board: Board, task: u8, p: u8) -> u32
+    ensures { λ r. ⌜ r ≡ executionOf (now (costs .entry)) board task p ⌝ }
+{
+    if is_within(task, board.tasks) {
+        if is_within(p, board.cores) {
+            let start = 1 + wide(board.tasks);
+            return value_at(costs, start + cell(task, p, board.cores));
+        }
+    }
+    0
+}
+
+// The internal transfer from a task to the next at p cores, in ticks.
+pub fn internal(costs: &[u8], board: Board, task: u8, p: u8) -> u32
+    ensures { λ r. ⌜ r ≡ internalOf (now (costs .entry)) board task p ⌝ }
+{
+    if has_next(task, board.tasks) {
+        if is_within(p, board.cores) {
+            let tasks = wide(board.tasks);
+            let first = 1 + tasks + tasks * wide(board.cores);
+            return value_at(costs, first + cell(task, p, board.cores));
+        }
+    }
+    0
+}
+
+// The place of the first kind 5 record of a task.
+fn pair_place(k: u8, p: u8, task: u8) -> u32
+    requires { ⌜ (1 ≤ k) × (1 ≤ task) ⌝ }
+    ensures { λ r. ⌜ (r ≡ pairPlace k p task) × (r < 33554432) ⌝ }
+{
+    let tasks = wide(k);
+    let cores = wide(p);
+    let square = cores * cores;
+    1 + tasks + tasks * cores + (tasks - 1) * cores + (wide(task) - 1) * square
+}
+
+// The kind 5 records of a task and the next, as a part of the costs; an empty part where there are none.
+pub fn pair(costs: &[u8], board: Board, task: u8) -> &[u8]
+    ensures { λ r. ⌜ now r ≡ pairOf (now (costs .entry)) board task ⌝ }
+{
+    if has_next(task, board.tasks) {
+        let cores = wide(board.cores) as usize;
+        let start = 8 * (pair_place(board.tasks, board.cores, task) as usize);
+        let end = start + 8 * (cores * cores);
+        if end <= costs.len() {
+            return &costs[start..end];
+        }
+    }
+    &costs[0..0]
+}
+
+// The external transfer at s sending and q receiving cores, in ticks, looked up in a pair's part.
+pub fn external(part: &[u8], cores: u8, s: u8, q: u8) -> u32
+    ensures { λ r. ⌜ r ≡ externalOf (now (part .entry)) cores s q ⌝ }
+{
+    if is_within(s, cores) {
+        if is_within(q, cores) {
+            return value_at(part, cell(s, q, cores));
+        }
+    }
+    0
+}

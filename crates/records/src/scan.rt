@@ -1,0 +1,141 @@
+// Reading a file: refusals 1 to 4, then one walk over the records in which the earliest faulty one decides.
+ghost use mathlib.Core.Path.{_≡_};
+ghost use Prim.Native.Nat.{_≤_};
+ghost use lib.ListN.{drop};
+ghost use Rattle.records.specs.Costs.{dueKeys, firstFault, boardMeets, refused, readRecords, readHead, readCosts};
+use crate::Board;
+use crate::Reading;
+use crate::Refusal;
+use crate::bytes::byte_at;
+use crate::bytes::value_at;
+use crate::keys::MOST_VALUE;
+use crate::keys::count;
+use crate::keys::due;
+use crate::keys::fault;
+
+// The most tasks of a chain and the most cores of a board.
+const MOST_TASKS: u8 = 12;
+
+const MOST_CORES: u8 = 32;
+
+// Record size in bytes.
+const RECORD: usize = 8;
+
+fn refuse(number: u32, place: u32) -> Reading
+    ensures { λ r. ⌜ r ≡ refused number place ⌝ }
+{
+    let none = Board {
+        tasks: 0,
+        cores: 0,
+        capacity: 0,
+    };
+    Reading {
+        number,
+        place,
+        board: none,
+    }
+}
+
+// The first fault among the records after the first, of which there are as many as keys are due.
+fn first_fault(costs: &[u8], k: u8, p: u8) -> Refusal
+    requires { ⌜ (1 ≤ k) × (1 ≤ p) ⌝ }
+    ensures { λ r. ⌜ r ≡ firstFault (now (costs .entry)) 1 (drop 1 (dueKeys k p)) ⌝ }
+{
+    let last = count(k, p) - 1;
+    let mut n: u32 = 1;
+    while n <= last {
+        let key = due(k, p, n);
+        let f = fault(costs, n, key);
+        if f != 0 {
+            let place = n + 1;
+            return Refusal { number: f, place };
+        }
+        n += 1;
+    }
+    Refusal {
+        number: 0,
+        place: 0,
+    }
+}
+
+// Whether the board's numbers are in range.
+fn board_meets(board: Board) -> bool
+    ensures { λ r. ⌜ r ≡ boardMeets board ⌝ }
+{
+    if board.cores < 1 {
+        return false;
+    }
+    if MOST_CORES < board.cores {
+        return false;
+    }
+    if board.tasks < 1 {
+        return false;
+    }
+    if MOST_TASKS < board.tasks {
+        return false;
+    }
+    if board.capacity < 1 {
+        return false;
+    }
+    board.capacity <= MOST_VALUE
+}
+
+// The length and the records, for a board in range: refusals 4, 5 and 6.
+fn read_records(costs: &[u8], board: Board) -> Reading
+    requires { ⌜ (1 ≤ board .tasks) × (1 ≤ board .cores) ⌝ }
+    ensures { λ r. ⌜ r ≡ readRecords (now (costs .entry)) board ⌝ }
+{
+    let total = count(board.tasks, board.cores);
+    if costs.len() != RECORD * (total as usize) {
+        return refuse(4, 0);
+    }
+    let f = first_fault(costs, board.tasks, board.cores);
+    if f.number != 0 {
+        return refuse(f.number, f.place);
+    }
+    Reading {
+        number: 0,
+        place: 0,
+        board,
+    }
+}
+
+// The first record, refusals 2 and 3, and what follows.
+fn read_head(costs: &[u8]) -> Reading
+    ensures { λ r. ⌜ r ≡ readHead (now (costs .entry)) ⌝ }
+{
+    let kind = byte_at(costs, 0, 0);
+    if kind != 1 {
+        return refuse(2, 0);
+    }
+    let task = byte_at(costs, 0, 1);
+    if task != 0 {
+        return refuse(2, 0);
+    }
+    let cores = byte_at(costs, 0, 2) as u8;
+    let tasks = byte_at(costs, 0, 3) as u8;
+    let capacity = value_at(costs, 0);
+    let board = Board {
+        tasks,
+        cores,
+        capacity,
+    };
+    if board_meets(board) {
+        read_records(costs, board)
+    } else {
+        refuse(3, 0)
+    }
+}
+
+// The board of a file of cost records, or the refusal that is due and its place.
+pub fn read(costs: &[u8]) -> Reading
+    ensures { λ r. ⌜ r ≡ readCosts (now (costs .entry)) ⌝ }
+{
+    if costs.len() < RECORD {
+        return refuse(1, 0);
+    }
+    if costs.len() % RECORD != 0 {
+        return refuse(1, 0);
+    }
+    read_head(costs)
+}
