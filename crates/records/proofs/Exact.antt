@@ -1,20 +1,20 @@
 -- The reader's definition against document 01's direct statement: each test holds exactly where its claim does, so
 -- `readCosts` finds exactly what is to be found. Assumes nothing.
-use mathlib.Core.Path.{_≡_, refl, sym, ap, _∙_}
+use mathlib.Core.Path.{_≡_, refl, sym, _∙_}
 use mathlib.Core.List.{List}
-use mathlib.Core.Bool.{Bool, true, false, cond, not, _&&_, _||_}
+use mathlib.Core.Bool.{true, false, cond, not}
 use mathlib.Core.Logic.{⊎-elim}
-use Prim.Native.Nat.{ℕ, zero, suc, _+_, _-_, _*_, _%_, _≤_, _<_}
+use Prim.Native.Nat.{ℕ, suc, _+_, _*_, _%_, _≤_, _<_}
 use native.Mathlib.Nat.{mul-mod-right}
 use native.Mathlib.Omega.{arith}
-use lib.ListN.{length, getD, drop}
+use lib.ListN.{length, drop}
 use lib.Dec.{eqb, leb}
 use borrow.Author.Tests.{eq-eqb, ne-eqb, le-leb, eqb-true, eqb-false, leb-true}
 use Rattle.records.specs.declared.Board.{Board}
 use Rattle.records.specs.declared.Reading.{Reading}
 use Rattle.records.specs.declared.Refusal.{Refusal}
 use Rattle.records.specs.declared.Key.{Key}
-use Rattle.records.specs.Costs.{mostTasks, mostCores, mostValue, byteAt, valueAt, key, dueKeys, countOf, keyMeets, valueMeets, faultAt, firstFault, accepted, refused, lengthMeets, headMeets, boardOf, boardMeets, readRecords, readHead, readCosts}
+use Rattle.records.specs.Costs.{mostTasks, mostCores, mostValue, byteAt, valueAt, dueKeys, countOf, keyMeets, valueMeets, faultAt, firstFault, accepted, refused, lengthMeets, headMeets, boardOf, boardMeets, readRecords, readHead, readCosts}
 use Rattle.records.specs.Format.{Bears, InRange, Whole, Headed, Ranged, Long, dueAt, RightBelow, IsCosts, Framed, Finds, Finds.costs, Finds.length-wrong, Finds.head-wrong, Finds.board-wrong, Finds.count-wrong, Finds.key-wrong, Finds.value-wrong}
 use Rattle.records.proofs.Cases.{true-or-false, true-not-false, false-unless, and-true, or-right, or-unless}
 use Rattle.records.proofs.Listing.{keys-count}

@@ -10,7 +10,7 @@ use native.Mathlib.Omega.{arith}
 use lib.ListN.{length, getD, take, drop}
 use lib.Seq.{getD-take, getD-drop}
 use lib.Dec.{eqb}
-use borrow.Author.Tests.{eq-eqb, ne-eqb, le-leb, lt-ltb, eqb-true, eqb-false, leb-true, ltb-true}
+use borrow.Author.Tests.{eq-eqb, le-leb, eqb-true, eqb-false}
 use Rattle.records.specs.declared.Board.{Board}
 use Rattle.records.specs.declared.Key.{Key}
 use Rattle.records.specs.Costs.{mostValue, byteAt, valueAt, key, dueKey, countOf, within, hasNext, cellOf, needOf, replicableOf, executionOf, internalOf, pairPlace, pairOf, externalOf}
@@ -18,7 +18,7 @@ use Rattle.records.specs.Format.{Bears, InRange, IsCosts, RecordSays}
 use Rattle.records.proofs.Cases.{true-or-false, and-true}
 use Rattle.records.proofs.Listing.{key-at}
 use Rattle.records.proofs.Inside.{within-true, within-bounds, has-next-true, has-next-bounds}
-use Rattle.records.proofs.Places.{cell-lt, cellOf-lt, placeOf, place-of-due, due-task, due-execution, due-internal, due-external}
+use Rattle.records.proofs.Places.{cellOf-lt, placeOf, place-of-due, due-task, due-execution, due-internal, due-external}
 
 -- a value where a test holds, else 0
 most-where : (t : Bool) (v most : ℕ) → (t ≡ true → v ≤ most) → cond t v 0 ≤ most

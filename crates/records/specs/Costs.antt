@@ -1,8 +1,8 @@
 -- Cost records, document 01, "Cost records" and refusals 1 to 6: what reading a file finds, and what a lookup in it is.
 -- A file is a list of bytes; records are counted from 0 here and a refusal's place from 1. Assumes nothing.
 use Prim.Native.Nat.{ℕ, zero, suc, _+_, _-_, _*_, _/_, _%_}
-use mathlib.Core.List.{List, [], _∷_, _++_, map}
-use mathlib.Core.Bool.{Bool, true, false, cond, not, _&&_, _||_}
+use mathlib.Core.List.{List, [], _∷_, _++_}
+use mathlib.Core.Bool.{Bool, cond, not, _&&_, _||_}
 use lib.ListN.{length, getD, take, drop}
 use lib.Dec.{ltb, leb, eqb}
 use Rattle.records.specs.declared.Board.{Board}

@@ -1,0 +1,17 @@
+-- `cores_at` is the i-th module's cores where there is such a module: the test is the definition's.
+use borrow.Author.Tests.{lt-ltb, le-ltb}
+use borrow.Author.Needs.{needs}
+use Rattle.figures.proofs.plan.cores_at.Statement.{statement}
+use Rattle.figures.proofs.plan.cores_at.Tie as tie
+
+record-at-requires : tie.Need-record-at-requires
+record-at-requires c κs = search needs
+
+returns : tie.Need-returns
+returns c = simp (lt-ltb _ _ (c .before .if1 .taken)) (cc)
+
+returns-2 : tie.Need-returns-2
+returns-2 c = simp (le-ltb _ _ (c .if1 .left))
+
+pub cores-at-spec : {M : Type 1} → statement M
+cores-at-spec = tie.close (tie.spec record-at-requires returns returns-2)

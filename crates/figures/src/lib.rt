@@ -1,0 +1,50 @@
+// The figures of a plan (document 01, "The chain and the board", "Plan bytes"; source document 000, 2.1 and 2.2): what a
+// module costs, which rules it keeps, what plan bytes say, and the service Judge.
+//
+// Whatever lies above takes every cost, test and figure from here. No public function has a `requires`: each answers for
+// all bytes, boards and numbers. A task, a count of copies and a count of cores are one byte each, as in plan bytes.
+mod cost;
+mod plan;
+mod rules;
+mod verdict;
+
+pub use cost::body;
+pub use cost::response_of;
+pub use cost::transfer;
+pub use plan::figures;
+pub use plan::module_at;
+pub use plan::module_count;
+pub use plan::put_module;
+pub use plan::response;
+pub use rules::fewest_cores;
+pub use rules::memory_fits;
+pub use rules::rules_met;
+pub use verdict::judge;
+
+// A module of a plan: an unbroken run of tasks, first to last, in r copies of p cores each.
+pub struct Module {
+    pub first: u8,
+    pub last: u8,
+    pub copies: u8,
+    pub cores: u8,
+}
+
+// The answer of each service: a refusal's number (0: none) and place, or the plan's count of modules, its cores, and of its
+// bottleneck the number of the module, counted from 1, its response and its copies. A refusal has zero figures.
+#[repr(C)]
+pub struct Answer {
+    pub number: u32,
+    pub place: u32,
+    pub modules: u32,
+    pub cores: u32,
+    pub slowest: u32,
+    pub copies: u32,
+    pub response: u64,
+}
+
+// A module by its number in a plan, counted from 1, with its response and its copies.
+pub struct Slowest {
+    pub number: u32,
+    pub response: u64,
+    pub copies: u32,
+}
