@@ -1,0 +1,17 @@
+pub mod Answer
+pub mod Best
+pub mod Bottleneck
+pub mod Copies
+pub mod Every
+pub mod Find
+pub mod Flat
+pub mod Fraction
+pub mod Gauge
+pub mod Least
+pub mod Loops
+pub mod Order
+pub mod Outcome
+pub mod Plain
+pub mod Plan
+pub mod Walk
+pub mod Weight

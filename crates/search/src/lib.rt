@@ -1,0 +1,14 @@
+// The mathematics of the search for the best plan (document 01, "Three services": Best plan), over an abstract problem: laws, no
+// services.
+//
+// A problem is what a module may be (`allowed`), what it takes (`response`) and what it costs (`price`), as functions of its
+// place; specs/Plan.antt says which. A change of the rules changes an instance, not the argument.
+//
+// What a caller may rely on:
+//   specs/Every.antt     the definition that tries every plan: the first of the best that keep the rules
+//   proofs/Answer.antt   what it finds is the plan of the least feasible threshold, and nothing where no plan keeps the rules
+//   proofs/Best.antt     that plan beats every plan that keeps the rules
+//   proofs/Outcome.antt  so the answer is the best plan, or no plan keeps the rules; and its bottleneck is the least of all
+//   proofs/Plain.antt    the same where the price of a module is its cores
+// For the program's loops: proofs/Loops.antt, Cheapest.antt, Flat.antt and Fill.antt (one cell, the table), Bisect.antt (the
+// threshold), Steps.antt (the walk).
