@@ -1,0 +1,141 @@
+-- The table of a chain as the planner computes it: what it reads depends on the board's size alone, the least over the copies is
+-- one division, and last tasks past the first that the memory does not allow add nothing. By the search's laws at the problem of a
+-- chain. Assumes nothing.
+use mathlib.Core.Path.{_≡_, refl, sym, _∙_}
+use mathlib.Core.Bool.{Bool, true, false, _&&_, _||_, and-true, or-comm}
+use mathlib.Core.List.{List}
+use Prim.Native.Nat.{ℕ, suc, _+_, _-_, _*_, _≤_, _<_}
+use native.Mathlib.Nat.{le-refl, le-antisymm, mul-le-mul}
+use native.Mathlib.Omega.{arith}
+use lib.ListN.{length, set, length-set}
+use lib.Dec.{T, leb, leb→le, le→leb, not-T}
+use Rattle.records.specs.declared.Board.{Board}
+use Rattle.records.proofs.Cases.{true-not-false, false-unless}
+use Rattle.figures.specs.Model.{Chain, response, transfer, body}
+use Rattle.figures.specs.Rules.{moduleRules, copiesAllowed, memoryFits}
+use Rattle.figures.proofs.Laws.{memory-drop}
+use Rattle.search.specs.Least.{pick, lesser, least}
+use Rattle.search.specs.Copies.{loadOf, fewest}
+use Rattle.search.specs.Plan.{cap}
+use Rattle.search.specs.Weight.{Table, overCopies, overNext, overLast}
+use Rattle.search.specs.Best.{fitsAt}
+use Rattle.search.specs.Flat.{cells, readTable}
+use Rattle.search.proofs.Tests.{and-l, and-r, and-i}
+use Rattle.search.proofs.Least.{pick-yes, pick-no, pick-ge, pick-le, least-cap, least-none, least-stop}
+use Rattle.search.proofs.Flat.{small-set}
+use Rattle.search.proofs.Loops.{overCopies-none}
+use Rattle.search.proofs.Cheapest.{overCopies-at}
+use Rattle.search.proofs.Plain.{plain-cap, plain-rises}
+use Rattle.planners.specs.Search.{grain, problem, ofSize, Sized, Holds, Loaded}
+use Rattle.planners.proofs.Instance.{problem-plain}
+
+-- ---- the size of the board
+
+pub size-cap : (k p : ℕ) → cap (ofSize k p) ≡ p + 1
+size-cap k p = plain-cap (ofSize k p) (record { price-is = λ s t l r p q. refl; unit-is = refl })
+
+pub chain-cap : (c : Chain) → cap (problem c) ≡ c .board + 1
+chain-cap c = plain-cap (problem c) (problem-plain c)
+
+-- a least so far is small
+pub least-most : (c : Chain) (i m : ℕ) (f : ℕ → ℕ) → m ≡ least (cap (problem c)) i f → m ≤ c .board + 1
+least-most c i m f e = omega (arith, e, least-cap (cap (problem c)) i f, chain-cap c)
+
+-- what is read depends on the size alone
+pub read-size : (c : Chain) (w : List ℕ) (s t q : ℕ) → readTable (ofSize (c .tasks) (c .board)) w s t q ≡ readTable (problem c) w s t q
+unfolding readTable cap
+read-size c w s t q = refl
+
+-- a board in range has few cells
+pub square-range : {b : Board} → Sized b → (1 ≤ b .cores * b .cores) × (b .cores * b .cores ≤ 1024)
+square-range h = (mul-le-mul (h .some-cores) (h .some-cores), mul-le-mul (h .most-cores) (h .most-cores))
+
+pub cells-few : {b : Board} → Sized b → cells (ofSize (b .tasks) (b .cores)) ≤ 11264
+cells-few {b} h = mul-le-mul {n₁ = b .tasks - 1} {n₂ = 11} (omega (arith, h .most-tasks)) (square-range h .1)
+
+-- writing a small number keeps the work area
+pub holds-set : {b : Board} {w : List ℕ} → Holds b w → (i v : ℕ) → i < length w → v ≤ b .cores + 1 → Holds b (set w i v)
+holds-set {b} {w} h i v l g = record {
+  sized = h .sized;
+  long = simp length-set (h .long);
+  low = small-set w i v (b .cores + 1) l g (h .low);
+}
+
+-- ---- one module in its place
+
+-- what it receives, its body and what it sends
+pub response-parts : (c : Chain) (s t l r p q : ℕ) → response c s (t + 1) l r p q ≡ transfer c t s p + body c (t + 1) l p + transfer c l p q
+unfolding response
+response-parts c s t l r p q = let e : t + 1 - 1 ≡ t = omega arith in rw e
+
+-- where its memory fits, only its copies are left to ask for
+pub fits-rules : (c : Chain) (first last r p : ℕ) → memoryFits c first last p ≡ true → moduleRules c first last r p ≡ copiesAllowed c first last r
+unfolding moduleRules
+fits-rules c first last r p e = rw (e, and-true)
+
+-- what is known of it once it is summed up and its rules are asked for at two copies
+pub loaded : {c : Chain} {s t q l received stay : ℕ} {rep : Bool} → t < l → l ≤ c .tasks → memoryFits c (t + 1) l q ≡ true → received ≡ transfer c t s q
+    → received < 4294967296 → (stay ≡ body c (t + 1) l q) × (stay < 4398046511104) → rep ≡ moduleRules c (t + 1) l 2 q → Loaded c s t q l (received + stay) rep
+loaded {c} {s} {t} {q} {l} later inside fits a low b rules = record {
+  later = later;
+  inside = inside;
+  fits = fits;
+  taken = omega (arith, a, b .0);
+  low = omega arith;
+  replicable = rules ∙ fits-rules c (t + 1) l 2 q fits;
+}
+
+-- ---- over the copies: r are the fewest that are enough, and their load is the same for each number of copies
+
+module _ {c : Chain} {s t q l base : ℕ} {rep : Bool} (h : Loaded c s t q l base rep) (n q′ : ℕ) {sent r : ℕ} (is-sent : sent ≡ transfer c l q q′)
+    (is-fewest : r ≡ fewest rep ((base + sent) * grain) ((base + sent) * grain) n) (some : 1 ≤ q) (rest : Table) where
+  allows : (i : ℕ) → moduleRules c (t + 1) l i q ≡ (true && (rep || leb i 1))
+  unfolding copiesAllowed
+  allows i = fits-rules c (t + 1) l i q (h .fits) ∙ rw (h .replicable) (or-comm (leb i 1) _)
+
+  loads : (i : ℕ) → response c s (t + 1) l i q q′ * grain ≡ loadOf ((base + sent) * grain) ((base + sent) * grain) i
+  loads i =
+      let a = (base + sent) * grain in
+      rw (response-parts c s t l i q q′, ← (h .taken), ← is-sent)
+      (le-antisymm (pick-ge (leb i 1) a a a (λ _. le-refl a) (le-refl a)) (pick-le (leb i 1) a a a (le-refl a) (le-refl a)))
+
+  cheapest : overCopies (problem c) (fitsAt (problem c) n) rest s t q l q′
+      ≡ pick (leb 1 r && leb (s + r * q + q′) (c .board)) (lesser (c .board + 1) (r * q + rest q l q′)) (c .board + 1)
+  cheapest =
+      let a = (base + sent) * grain in
+      rw (← (chain-cap c), is-fewest)
+      (overCopies-at (problem c) n s t q l q′ true rep a a allows loads (h .later) (h .inside) some (le-refl a) rest
+      (λ i j. plain-rises (problem c) (problem-plain c) s t l i j q q′))
+
+  -- no number of copies is enough, or there is no room for the fewest
+  pub copies-none : (1 ≤ r → s + r * q + q′ ≤ c .board → ⊥) → c .board + 1 ≡ overCopies (problem c) (fitsAt (problem c) n) rest s t q l q′
+  copies-none f =
+      let a = leb 1 r in
+      let b = leb (s + r * q + q′) (c .board) in
+      sym (cheapest ∙ pick-no (a && b) _ _ (not-T (a && b) (λ u. f (leb→le 1 r (and-l a b u)) (leb→le (s + r * q + q′) (c .board) (and-r a b u)))))
+
+  pub copies-some : 1 ≤ r → s + r * q + q′ ≤ c .board → lesser (c .board + 1) (r * q + rest q l q′) ≡ overCopies (problem c) (fitsAt (problem c) n) rest s t q l q′
+  copies-some u v =
+      let a = leb 1 r in
+      let b = leb (s + r * q + q′) (c .board) in
+      sym (cheapest ∙ pick-yes (a && b) _ _ (and-i a b (le→leb 1 r u) (le→leb (s + r * q + q′) (c .board) v)))
+
+-- ---- over the last task
+
+module _ (c : Chain) (n s t q : ℕ) (rest : Table) where
+  -- nothing comes of a last task at which the memory does not fit
+  next-unfit : (l : ℕ) → memoryFits c (t + 1) l q ≡ false → overNext (problem c) (fitsAt (problem c) n) rest s t q l ≡ cap (problem c)
+  unfolding overNext moduleRules
+  next-unfit l e = least-none (cap (problem c)) (suc (c .board)) _ (λ q′ b.
+      rw (overCopies-none (problem c) (fitsAt (problem c) n) rest s t q l q′ (λ i _.
+      not-T (fitsAt (problem c) n s t l i q q′) (λ u.
+      let d : T (memoryFits c (t + 1) l q) = search (and-l, and-r) in
+      rw e at d))) (le-refl (cap (problem c))))
+
+  -- nor of a later one: the loop may stop
+  pub last-stop : (l m : ℕ) → l ≤ c .tasks → memoryFits c (t + 1) l q ≡ false → m ≡ least (cap (problem c)) l (overNext (problem c) (fitsAt (problem c) n) rest s t q)
+      → m ≡ overLast (problem c) (fitsAt (problem c) n) rest s t q
+  unfolding overLast
+  last-stop l m h e d = d ∙ sym (least-stop (cap (problem c)) l (suc (c .tasks)) _ (omega arith) (λ i a b.
+      rw (next-unfit i (false-unless (memoryFits c (t + 1) i q) (λ u. memory-drop c (t + 1) i (t + 1) l (le-refl (t + 1)) a q u) (λ v. true-not-false (memoryFits c (t + 1) l q) v e)))
+      (least-cap (cap (problem c)) l _)))

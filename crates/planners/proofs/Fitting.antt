@@ -1,0 +1,54 @@
+-- A module in its place at a threshold: the test as its facts, and what is left of it once the code has made the other tests. Assumes
+-- nothing.
+use mathlib.Core.Path.{_≡_, _∙_}
+use mathlib.Core.Bool.{Bool, true, false, not, and-true}
+use Prim.Native.Nat.{ℕ, _+_, _*_, _≤_, _<_}
+use lib.Dec.{leb}
+use borrow.Author.Tests.{lt-ltb, le-leb, ltb-true, leb-true, not-true, not-false}
+use Rattle.records.proofs.Cases as cases
+use Rattle.records.proofs.Cases.{false-unless, true-not-false}
+use Rattle.figures.specs.Model.{Chain, response}
+use Rattle.figures.specs.Rules.{moduleRules}
+use Rattle.search.specs.Best.{fitsAt}
+use Rattle.planners.specs.Search.{grain, problem}
+
+module _ (c : Chain) (n s t l r p q : ℕ) where
+  -- the module of tasks t + 1 to l fits between modules of s and q cores
+  pub record Fits : Type 0 where
+    pub later : t < l
+    pub inside : l ≤ c .tasks
+    pub some-copies : 1 ≤ r
+    pub some-cores : 1 ≤ p
+    pub keeps : moduleRules c (t + 1) l r p ≡ true
+    pub within : response c s (t + 1) l r p q * grain ≤ n * r
+    pub room : s + r * p + q ≤ c .board
+
+  pub fits-facts : fitsAt (problem c) n s t l r p q ≡ true → Fits
+  fits-facts e =
+      let h₆ = cases.and-true _ _ e in
+      let h₅ = cases.and-true _ _ (h₆ .0) in
+      let h₄ = cases.and-true _ _ (h₅ .0) in
+      let h₃ = cases.and-true _ _ (h₄ .0) in
+      let h₂ = cases.and-true _ _ (h₃ .0) in
+      let h₁ = cases.and-true _ _ (h₂ .0) in
+      record {
+        later = ltb-true _ _ (h₁ .0);
+        inside = leb-true _ _ (h₁ .1);
+        some-copies = leb-true _ _ (h₂ .1);
+        some-cores = leb-true _ _ (h₃ .1);
+        keeps = h₄ .1;
+        within = leb-true _ _ (h₅ .1);
+        room = leb-true _ _ (h₆ .1);
+      }
+
+  pub fits-not : (Fits → ⊥) → fitsAt (problem c) n s t l r p q ≡ false
+  fits-not h = false-unless (fitsAt (problem c) n s t l r p q) fits-facts h
+
+  pub fits-kept-not : {x : Bool} → x ≡ moduleRules c (t + 1) l r p → not x ≡ true → fitsAt (problem c) n s t l r p q ≡ false
+  fits-kept-not {x} e h = fits-not (λ f. true-not-false x (e ∙ f .keeps) (not-true x h))
+
+  -- where all else holds, it is the threshold that decides
+  pub fits-within : {x : Bool} {y : ℕ} → t < l → l ≤ c .tasks → 1 ≤ r → 1 ≤ p → x ≡ moduleRules c (t + 1) l r p → not x ≡ false → s + r * p + q ≤ c .board
+      → y ≡ response c s (t + 1) l r p q → leb (y * grain) (n * r) ≡ fitsAt (problem c) n s t l r p q
+  fits-within {x} later inside copies cores e h room d =
+      simp (lt-ltb t l later, le-leb l (c .tasks) inside, le-leb 1 r copies, le-leb 1 p cores, ← e, not-false x h, le-leb (s + r * p + q) (c .board) room, and-true, d)

@@ -1,0 +1,135 @@
+-- The search on a board's costs: a zeroed work area holds a table, and what is found, or that nothing is, is what the definition that
+-- tries every plan says; with it the service, refusal by refusal. Assumes nothing.
+use mathlib.Core.Path.{_≡_, refl, sym, ap, _∙_}
+use mathlib.Core.Bool.{false}
+use mathlib.Core.List.{List, _++_}
+use mathlib.Core.Option.{none, some}
+use Prim.Native.Nat.{ℕ, zero, suc, _≤_, _<_}
+use native.Mathlib.Omega.{arith}
+use lib.ListN.{length, getD, drop, replicate, length-replicate}
+use borrow.Author.Tests.{le-ltb, le-leb, lt-leb, eq-eqb, ne-eqb}
+use Rattle.records.specs.declared.Board.{Board}
+use Rattle.records.specs.declared.Reading.{Reading}
+use Rattle.records.specs.Costs.{readCosts}
+use Rattle.records.specs.Format.{IsCosts}
+use Rattle.records.proofs.Laws.{accepted-costs}
+use Rattle.figures.specs.declared.Answer.{Answer}
+use Rattle.figures.specs.Model.{chainOf}
+use Rattle.figures.specs.Plan.{planBytes, modulesOf, encodePlan, figuresOf}
+use Rattle.figures.specs.Judge.{refusal}
+use Rattle.figures.proofs.Passing.{keeps-parts}
+use Rattle.figures.proofs.Shapes.{decode-encode}
+use Rattle.search.specs.Plan.{cap}
+use Rattle.search.specs.Best.{light, plan, Feasible, Bottom}
+use Rattle.search.specs.Answer.{answer}
+use Rattle.search.proofs.Best.{plan-keeps}
+use Rattle.search.proofs.Answer.{finds}
+use Rattle.planners.specs.Search.{problem, topThreshold, Sized, Holds}
+use Rattle.planners.specs.Best.{workWords, isBetter, bestPlan, foundAnswer, foundBytes, begins, bestAnswer, bestBytes, bestWork}
+use Rattle.planners.proofs.Cells.{chain-cap, cells-few}
+use Rattle.planners.proofs.Instance.{problem-laws, problem-small, keeps-rules, better-decides, best-searched}
+use Rattle.planners.proofs.Optimal.{best-answer}
+
+-- a list of one number reads as that number, also past its end
+one-number : (n j a : ℕ) → getD (replicate n a) j a ≡ a
+one-number zero j a = refl
+one-number (suc n) zero a = refl
+one-number (suc n) (suc j) a = one-number n j a
+
+-- an area of n zeros has that length, and is zeros by its own length
+pub zeroed-length : (n : ℕ) {v : List ℕ} → v ≡ replicate n 0 → length v ≡ n
+zeroed-length n e = ap length e ∙ length-replicate n 0
+
+pub zeroed : (n : ℕ) {v : List ℕ} → v ≡ replicate n 0 → v ≡ replicate (length v) 0
+zeroed n e = e ∙ ap (λ (k : ℕ). replicate k 0) (sym (zeroed-length n e))
+
+module _ (s : List ℕ) (b : Board) (costs : IsCosts s b) where
+  pub zero-holds : {w : List ℕ} → workWords ≤ length w → w ≡ replicate (length w) 0 → Holds b w
+  zero-holds {w} h e =
+      let r = costs .ranged in
+      let size : Sized b = record { some-tasks = r .some-tasks; most-tasks = r .most-tasks; some-cores = r .some-cores; most-cores = r .most-cores } in
+      record { sized = size; long = omega (arith, cells-few size); low = λ j. omega (arith, ap (λ (v : List ℕ). getD v j 0) e, one-number (length w) j 0) }
+
+  -- no plan is within the greatest threshold
+  module _ {v : ℕ} (e : v ≡ light (problem (chainOf s b)) topThreshold) (h : b .cores < v) where
+    none-found : bestPlan (chainOf s b) ≡ none
+    unfolding answer
+    none-found =
+        best-answer s b costs
+        ∙ simp (le-ltb (light (problem (chainOf s b)) topThreshold) (cap (problem (chainOf s b))) (omega (arith, chain-cap (chainOf s b))))
+
+    pub none-answer : refusal 9 0 ≡ foundAnswer (chainOf s b) (bestPlan (chainOf s b))
+    unfolding foundAnswer
+    none-answer = rw none-found
+
+    pub none-bytes : (w : List ℕ) → w ≡ foundBytes (bestPlan (chainOf s b)) w
+    unfolding foundBytes
+    none-bytes w = rw none-found
+
+  -- the plan of the least feasible threshold
+  module _ (n : ℕ) (feasible : Feasible (problem (chainOf s b)) n) (bottom : Bottom (problem (chainOf s b)) n) {path : List ℕ} (laid : path ≡ encodePlan (plan (problem (chainOf s b)) n)) where
+    plan-found : bestPlan (chainOf s b) ≡ some (plan (problem (chainOf s b)) n)
+    plan-found =
+        best-searched (chainOf s b) (costs .ranged .some-tasks)
+        ∙ finds (problem (chainOf s b)) (problem-laws (chainOf s b)) (isBetter (chainOf s b)) (better-decides (chainOf s b) (costs .ranged .some-tasks)) (problem-small (chainOf s b) (costs .ranged .most-cores)) n feasible bottom
+
+    plan-said : modulesOf path (b .tasks) ≡ plan (problem (chainOf s b)) n
+    plan-said =
+        let c = chainOf s b in
+        let ms = plan (problem c) n in
+        let k = keeps-parts c ms (keeps-rules c ms (plan-keeps (problem c) (problem-laws c) n feasible)) in
+        ap (λ (w : List ℕ). modulesOf w (b .tasks)) laid ∙ decode-encode (b .tasks) ms (costs .ranged .some-tasks) (costs .ranged .most-tasks) (k .0)
+
+    pub plan-answer : {r : Answer} → r ≡ figuresOf (chainOf s b) (modulesOf path (b .tasks)) → r ≡ foundAnswer (chainOf s b) (bestPlan (chainOf s b))
+    unfolding foundAnswer
+    plan-answer e = rw plan-found (e ∙ ap (figuresOf (chainOf s b)) plan-said)
+
+    pub plan-bytes : (w : List ℕ) {v : List ℕ} → v ≡ path ++ drop planBytes w → v ≡ foundBytes (bestPlan (chainOf s b)) w
+    unfolding foundBytes
+    plan-bytes w e = rw plan-found (e ∙ ap (λ (x : List ℕ). x ++ drop planBytes w) laid)
+
+-- ---- the service
+
+pub accepted-is : (s : List ℕ) {r : Reading} → r ≡ readCosts s → r .number ≡ 0 → IsCosts s (r .board)
+accepted-is s read e = rw read (accepted-costs s (rw (← read) e))
+
+module _ (s w work : List ℕ) where
+  -- the answer, the plan bytes and the work area are what the service is to give
+  abbrev pub Serves : Answer → List ℕ → List ℕ → Type 0
+  Serves a v z = (a ≡ bestAnswer s w work) × (v ≡ bestBytes s w work) × (z ≡ bestWork s w work)
+
+  -- where no search begins, nothing is written
+  untouched : {a : Answer} → begins s w work ≡ false → a ≡ bestAnswer s w work → Serves a w work
+  unfolding bestBytes bestWork
+  untouched e answer = (answer, rw e, rw e)
+
+  module _ {r : Reading} {a : Answer} (read : r ≡ readCosts s) where
+    pub refused-costs : (r .number ≡ 0 → ⊥) → a ≡ refusal (r .number) (r .place) → Serves a w work
+    unfolding bestAnswer begins
+    refused-costs n e = let t = ne-eqb (r .number) 0 n in untouched (simp (← read, t)) (simp (← read, t) e)
+
+    module _ (accepted : r .number ≡ 0) where
+      pub refused-bytes : length w < planBytes → a ≡ refusal 7 0 → Serves a w work
+      unfolding bestAnswer begins
+      refused-bytes h e =
+          let t = eq-eqb (r .number) 0 accepted in
+          let u = lt-leb planBytes (length w) h in
+          untouched (simp (← read, t, u)) (simp (← read, t, u) e)
+
+      module _ (long : planBytes ≤ length w) where
+        pub refused-work : length work < workWords → a ≡ refusal 8 0 → Serves a w work
+        unfolding bestAnswer begins
+        refused-work h e =
+            let t = eq-eqb (r .number) 0 accepted in
+            let u = le-leb planBytes (length w) long in
+            let v = lt-leb workWords (length work) h in
+            untouched (simp (← read, t, u, v)) (simp (← read, t, u, v) e)
+
+        pub served : {v z : List ℕ} → workWords ≤ length work → a ≡ foundAnswer (chainOf s (r .board)) (bestPlan (chainOf s (r .board)))
+            → v ≡ foundBytes (bestPlan (chainOf s (r .board))) w → z ≡ replicate (length work) 0 → Serves a v z
+        unfolding bestAnswer bestBytes bestWork begins
+        served h answer bytes zeros =
+            let t = eq-eqb (r .number) 0 accepted in
+            let u = le-leb planBytes (length w) long in
+            let x = le-leb workWords (length work) h in
+            (simp (← read, t, u, x) answer, simp (← read, t, u, x) bytes, simp (← read, t, u, x) zeros)

@@ -1,0 +1,40 @@
+-- Demand 3: for all costs, plan bytes and work areas with which a search begins (accepted costs, buffers large enough, whatever
+-- they held), over layer 2's rules, bottleneck, cores and module order, with every list of modules as a rival. `bestAnswer` and
+-- `bestBytes` are what the promise of `best_plan` says of its answer and of the plan bytes. Assumes nothing.
+use mathlib.Core.Path.{_≡_}
+use mathlib.Core.Bool.{true}
+use mathlib.Core.List.{List}
+use mathlib.Core.Logic.{_↔_}
+use Prim.Native.Nat.{ℕ}
+use Rattle.figures.specs.declared.Module.{Module}
+use Rattle.figures.specs.Rules.{keepsRules}
+use Rattle.figures.specs.Judge.{refusal, judged}
+use Rattle.figures.specs.Claims.{chain, Passes}
+use Rattle.planners.specs.Best.{begins, bestAnswer, bestBytes}
+use Rattle.planners.specs.Claims.{ComesFirst, Filled}
+use Rattle.planners.proofs.Outcomes as outcomes
+
+module _ (s w work : List ℕ) (began : begins s w work ≡ true) where
+  -- a plan is filled in exactly if some plan keeps the rules
+  pub fills-exactly : (bestAnswer s w work .number ≡ 0) ↔ ((ms : List Module) × (keepsRules (chain s w) ms ≡ true))
+  fills-exactly = (
+    λ e. let (a, f) = outcomes.plan-of s w work began (outcomes.outcome s w work began) e in (a, f .keeps),
+    λ p. outcomes.some-plan s w work began (outcomes.outcome s w work began) (p .0) (p .1),
+  )
+
+  -- refusal 9 exactly if none does
+  pub refuses-exactly : (bestAnswer s w work ≡ refusal 9 0) ↔ ((ms : List Module) → keepsRules (chain s w) ms ≡ true → ⊥)
+  refuses-exactly = (outcomes.refused-none s w work began (outcomes.outcome s w work began), outcomes.none-of s w work began (outcomes.outcome s w work began))
+
+  -- the plan filled in keeps the rules and comes before every plan that does: smaller bottleneck, or equal and fewer cores, or equal
+  -- and earlier in module order (`Filled`, `ComesFirst`)
+  pub fills-best : bestAnswer s w work .number ≡ 0 → (a : List Module) × Filled s w work a
+  fills-best = outcomes.plan-of s w work began (outcomes.outcome s w work began)
+
+  -- the same as services: whatever plan bytes v Judge passes for these costs, the plan filled in is theirs or comes before it
+  pub before-judged : (v : List ℕ) → judged s v .number ≡ 0 → (a : List Module) × (p : Passes s v) × Filled s w work a × ComesFirst (chain s w) a (p .modules)
+  before-judged v e = outcomes.before-judged s w work began v e
+
+  -- and Judge passes it and answers the same figures
+  pub judge-same : bestAnswer s w work .number ≡ 0 → judged s (bestBytes s w work) ≡ bestAnswer s w work
+  judge-same e = let (a, f) = fills-best e in outcomes.judge-agrees s w work began a f

@@ -1,0 +1,102 @@
+-- `search` finds what the definition that tries every plan finds: nothing where no plan is within the greatest threshold, else the
+-- plan of the least feasible one, laid from its table.
+use mathlib.Core.Path.{refl, _∙_}
+use native.Mathlib.Omega.{arith}
+use borrow.Author.Needs.{needs}
+use Rattle.figures.specs.Model.{chainOf}
+use Rattle.figures.specs.Plan.{encode}
+use Rattle.planners.specs.Search.{topThreshold}
+use Rattle.planners.proofs.Laying.{light-feasible, feasible-light}
+use Rattle.planners.proofs.Serving.{zero-holds, none-answer, none-bytes, plan-answer, plan-bytes}
+use Rattle.planners.proofs.best.search.Statement.{statement}
+use Rattle.planners.proofs.best.search.Tie as tie
+
+cast-most : tie.Need-cast-most
+cast-most c = search needs
+
+cores-within-requires : tie.Need-cores-within-requires
+cores-within-requires c κs =
+    let s = c .before .before .before .before .before in
+    (zero-holds (s .args .costs .now) (s .args .board) (s .pre .0) (s .pre .2) (s .pre .3), omega arith)
+
+refuse-requires : tie.Need-refuse-requires
+refuse-requires c κs = search needs
+
+same-length : tie.Need-same-length
+same-length c = search needs
+
+returns : tie.Need-returns
+returns c =
+    let s = c .before .before .before .before .before .before .before .before .before .before in
+    let a = s .args in
+    let some = c .before .before .before .before .cores-within .ensures in (
+      c .refuse .ensures ∙ none-answer (a .costs .now) (a .board) (s .pre .0) (some .0) (c .before .if1 .taken),
+      none-bytes (a .costs .now) (a .board) (s .pre .0) (some .0) (c .before .if1 .taken) (a .plan .now),
+      some .2,
+    )
+
+least-threshold-requires : tie.Need-least-threshold-requires
+least-threshold-requires c κs =
+    let a = c .before .before .before .before .before .before .before .before .before .before .args in
+    let some = c .before .before .before .before .cores-within .ensures in
+    (some .1, omega arith, light-feasible (chainOf (a .costs .now) (a .board)) topThreshold (some .0) (c .before .if1 .left))
+
+cores-within-requires-2 : tie.Need-cores-within-requires-2
+cores-within-requires-2 c κs = search needs
+
+slice-aggregate-lay-path : tie.Need-slice-aggregate-lay-path
+slice-aggregate-lay-path c = search needs
+
+lay-path-requires : tie.Need-lay-path-requires
+unfolding encode
+lay-path-requires c κs =
+    let a = c .before .before .before .before .before .before .before .before .before .before .before .before .before .before .before .before .before .before .before .args in
+    let n = c .before .before .before .before .before .before .before .before .least-threshold in
+    let t = c .before .before .before .before .cores-within2 .ensures in
+    (t .1, n .ensures .0, t .0, feasible-light (chainOf (a .costs .now) (a .board)) (n .result) (t .0) (n .ensures .1), t .3, refl)
+
+put-plan-requires : tie.Need-put-plan-requires
+put-plan-requires c κs = search needs
+
+slice-aggregate-figures : tie.Need-slice-aggregate-figures
+slice-aggregate-figures c = search needs
+
+figures-requires : tie.Need-figures-requires
+figures-requires c κs = search needs
+
+same-length-2 : tie.Need-same-length-2
+same-length-2 c = search needs
+
+same-length-3 : tie.Need-same-length-3
+same-length-3 c = search needs
+
+returns-2 : tie.Need-returns-2
+returns-2 c =
+    let s = c .before .before .before .before .before .before .before .before .before .before .before .before .before .before .before .before .before .before .before .before .before .before .before .before .before .before .before in
+    let a = s .args in
+    let n = c .before .before .before .before .before .before .before .before .before .before .before .before .before .before .before .before .least-threshold in
+    let laid = c .before .before .before .before .before .before .before .lay-path .ensures in (
+      plan-answer (a .costs .now) (a .board) (s .pre .0) (n .result) (n .ensures .1) (n .ensures .2) laid (c .figures .ensures),
+      plan-bytes (a .costs .now) (a .board) (s .pre .0) (n .result) (n .ensures .1) (n .ensures .2) laid (a .plan .now) (c .before .before .before .before .put-plan .ensures),
+      c .before .before .before .before .before .before .before .before .before .before .before .before .cores-within2 .ensures .2 ∙ n .ensures .4 ∙ c .before .before .before .before .before .before .before .before .before .before .before .before .before .before .before .before .before .before .before .before .before .cores-within .ensures .2,
+    )
+
+pub search-spec : {M : Type 1} → statement M
+search-spec =
+    tie.close
+    (tie.spec
+    cast-most
+    cores-within-requires
+    refuse-requires
+    same-length
+    returns
+    least-threshold-requires
+    cores-within-requires-2
+    slice-aggregate-lay-path
+    lay-path-requires
+    put-plan-requires
+    slice-aggregate-figures
+    figures-requires
+    same-length-2
+    same-length-3
+    returns-2)

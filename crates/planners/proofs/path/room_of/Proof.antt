@@ -1,0 +1,25 @@
+-- `room_of` is `roomOf`: the tests are the definition's.
+use borrow.Author.Needs.{needs}
+use borrow.Author.Tests.{eq-eqb, ne-eqb}
+use Rattle.search.specs.Least.{pick}
+use Rattle.planners.specs.Search.{roomOf}
+use Rattle.planners.proofs.path.room_of.Statement.{statement}
+use Rattle.planners.proofs.path.room_of.Tie as tie
+
+returns : tie.Need-returns
+unfolding roomOf
+returns c = simp (eq-eqb _ _ (c .if1 .taken))
+
+fits-at-requires : tie.Need-fits-at-requires
+fits-at-requires c κs = search needs
+
+returns-2 : tie.Need-returns-2
+unfolding roomOf pick
+returns-2 c = simp (ne-eqb _ _ (c .before .before .if1 .left), ← (c .before .fits-at .ensures), c .if2 .taken)
+
+returns-3 : tie.Need-returns-3
+unfolding roomOf pick
+returns-3 c = simp (ne-eqb _ _ (c .before .before .if1 .left), ← (c .before .fits-at .ensures), c .if2 .left)
+
+pub room-of-spec : {M : Type 1} → statement M
+room-of-spec = tie.close (tie.spec returns fits-at-requires returns-2 returns-3)

@@ -1,0 +1,102 @@
+-- `over_last` is `overLast`: the least so far over the last tasks from t + 1 on. Where the memory does not fit it fits at no later
+-- last task either, so the least so far is the whole.
+use Prim.Native.Nat.{_+_, _-_, _≤_}
+use native.Mathlib.Omega.{arith}
+use mathlib.Core.Path.{_≡_, sym, _∙_}
+use borrow.Author.Needs.{needs}
+use borrow.Author.Tests.{not-true, not-false}
+use Rattle.figures.specs.Model.{chainOf}
+use Rattle.search.specs.Least.{least}
+use Rattle.search.specs.Plan.{cap}
+use Rattle.search.specs.Weight.{overNext}
+use Rattle.search.specs.Best.{fitsAt}
+use Rattle.search.specs.Flat.{readTable}
+use Rattle.search.proofs.Least.{least-more}
+use Rattle.search.proofs.Fill.{last-start, last-end}
+use Rattle.planners.specs.Search.{problem}
+use Rattle.planners.proofs.Cells.{chain-cap, least-most, last-stop}
+use Rattle.planners.proofs.table.over_last.Statement.{statement}
+use Rattle.planners.proofs.table.over_last.Tie as tie
+
+abbrev Inv-loop : tie.InvT-loop
+Inv-loop costs board work n s t q m₀ l₀ m l =
+    let x = problem (chainOf costs board) in
+    (t + 1 ≤ l) × (l ≤ board .tasks + 1) × (m ≡ least (cap x) l (overNext x (fitsAt x n) (readTable x work) s t q))
+
+abbrev μ-loop : tie.MeasureT-loop
+μ-loop costs board work n s t q m₀ l₀ m l = board .tasks + 1 - l
+
+cast-m : tie.Need-cast-m Inv-loop μ-loop
+cast-m c = search needs
+
+add-m : tie.Need-add-m Inv-loop μ-loop
+add-m c = search needs
+
+add-l : tie.Need-add-l Inv-loop μ-loop
+add-l c = omega arith
+
+loop-holds : tie.Need-loop-holds Inv-loop μ-loop
+loop-holds c =
+    let a = c .before .before .before .args in
+    let k = chainOf (a .costs .now) (a .board) in
+    (omega arith, omega arith, sym (chain-cap k) ∙ last-start (problem k) (a .n) (a .work .now) (a .s) (a .t) (a .q))
+
+add-memory-fits : tie.Need-add-memory-fits Inv-loop μ-loop
+add-memory-fits c = omega arith
+
+memory-fits-requires : tie.Need-memory-fits-requires Inv-loop μ-loop
+memory-fits-requires c κs = search needs
+
+returns : tie.Need-returns Inv-loop μ-loop
+returns c =
+    let o = c .before .before .before .before in
+    let a = o .before .before .before .before .args in
+    let k = chainOf (a .costs .now) (a .board) in
+    let unfit = sym (c .before .memory-fits .ensures) ∙ not-true _ (c .if2 .taken) in
+    let e = last-stop k (a .n) (a .s) (a .t) (a .q) (readTable (problem k) (a .work .now)) (o .loop .l) (o .loop .m) (omega arith) unfit (o .loop .inv .2) in
+    (e, least-most k _ _ _ (o .loop .inv .2))
+
+over-next-requires : tie.Need-over-next-requires Inv-loop μ-loop
+over-next-requires c κs =
+    let b = c .before .before .before .before .before .before .before .before in
+    (b .pre .0, b .pre .1, omega arith, omega arith, sym (c .before .memory-fits .ensures) ∙ not-false _ (c .if2 .left))
+
+lesser-requires : tie.Need-lesser-requires Inv-loop μ-loop
+lesser-requires c κs = search needs
+
+add-l-2 : tie.Need-add-l-2 Inv-loop μ-loop
+add-l-2 c = omega arith
+
+loop-less : tie.Need-loop-less Inv-loop μ-loop
+loop-less c = omega arith
+
+loop-again : tie.Need-loop-again Inv-loop μ-loop
+loop-again c = (omega arith, omega arith, least-more _ _ _ _ _ (c .before .before .before .before .before .before .loop .inv .2) (c .lesser .ensures ∙ rw (c .before .over-next .ensures .0)))
+
+returns-2 : tie.Need-returns-2 Inv-loop μ-loop
+returns-2 c =
+    let o = c .before .before in
+    let a = o .before .before .before .before .args in
+    let k = chainOf (a .costs .now) (a .board) in
+    let e = last-end (problem k) (a .n) (a .work .now) (a .s) (a .t) (a .q) (o .loop .l) (o .loop .m) (omega arith) (o .loop .inv .2) in
+    (e, least-most k _ _ _ (o .loop .inv .2))
+
+pub over-last-spec : {M : Type 1} → statement M
+over-last-spec =
+    tie.close
+    (tie.spec
+    Inv-loop
+    μ-loop
+    cast-m
+    add-m
+    add-l
+    loop-holds
+    add-memory-fits
+    memory-fits-requires
+    returns
+    over-next-requires
+    lesser-requires
+    add-l-2
+    loop-less
+    loop-again
+    returns-2)

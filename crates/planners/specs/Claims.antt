@@ -1,0 +1,30 @@
+-- Demand 3 in document 01's words: a plan comes before a rival. Assumes nothing.
+use Prim.Native.Nat.{ℕ, _<_}
+use mathlib.Core.Path.{_≡_}
+use mathlib.Core.Bool.{true}
+use mathlib.Core.List.{List, _++_}
+use mathlib.Core.Logic.{_⊎_}
+use lib.ListN.{drop}
+use Rattle.records.specs.Costs.{readCosts}
+use Rattle.figures.specs.declared.Module.{Module}
+use Rattle.figures.specs.Model.{Chain, chainOf, coresOf, bottleneck}
+use Rattle.figures.specs.Rules.{keepsRules}
+use Rattle.figures.specs.Plan.{planBytes, encodePlan, figuresOf, Before}
+use Rattle.figures.specs.Claims.{AtMost, Below}
+use Rattle.planners.specs.Best.{bestAnswer, bestBytes}
+
+-- a comes before b: its bottleneck is smaller; or they are equal (each at most the other), and it has fewer cores; or as many, and
+-- it is b or comes before b in module order
+unfoldable pub ComesFirst : Chain → List Module → List Module → Type 0
+ComesFirst c a b =
+    Below (bottleneck c a) (bottleneck c b)
+    ⊎ (AtMost (bottleneck c a) (bottleneck c b) × AtMost (bottleneck c b) (bottleneck c a)
+    × ((coresOf a < coresOf b) ⊎ ((coresOf a ≡ coresOf b) × ((a ≡ b) ⊎ Before a b))))
+
+-- the plan a is filled in: the first 48 bytes are its, the rest as lent, the answer is its figures; it keeps the rules, and comes
+-- before every plan that does
+pub record Filled (s w work : List ℕ) (a : List Module) : Type 0 where
+  pub bytes : bestBytes s w work ≡ encodePlan a ++ drop planBytes w
+  pub figures : bestAnswer s w work ≡ figuresOf (chainOf s (readCosts s .board)) a
+  pub keeps : keepsRules (chainOf s (readCosts s .board)) a ≡ true
+  pub first : (b : List Module) → keepsRules (chainOf s (readCosts s .board)) b ≡ true → ComesFirst (chainOf s (readCosts s .board)) a b

@@ -1,0 +1,5 @@
+pub mod Assignment
+pub mod Best
+pub mod Claims
+pub mod Greedy
+pub mod Search

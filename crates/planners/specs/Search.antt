@@ -1,0 +1,106 @@
+-- A chain as a problem of the search, and what the planner's own functions hand on. Assumes nothing.
+use Prim.Native.Nat.{ℕ, _+_, _*_, _≤_, _<_}
+use mathlib.Core.Path.{_≡_}
+use mathlib.Core.List.{List}
+use mathlib.Core.Bool.{Bool, true, false, cond}
+use lib.ListN.{length, getD}
+use lib.Dec.{eqb}
+use Rattle.records.specs.declared.Board.{Board}
+use Rattle.figures.specs.declared.Module.{Module}
+use Rattle.figures.specs.Model.{Chain, response, transfer, body}
+use Rattle.figures.specs.Rules.{moduleRules, copiesAllowed, memoryFits}
+use Rattle.search.specs.Least.{pick}
+use Rattle.search.specs.Plan.{Problem}
+use Rattle.search.specs.Walk.{Room, choice}
+use Rattle.search.specs.Best.{fitsAt}
+use Rattle.search.specs.Flat.{cells, readTable}
+use Rattle.planners.specs.declared.path.Passed.{Passed}
+
+-- fractions whose denominators are at most 32 are equal or at least 1 / 1024 apart
+abbrev pub grain : ℕ
+grain = 1024
+
+-- the modules that keep the rules, their response, and their cores as price
+abbrev pub problem : Chain → Problem
+problem c = record {
+  tasks = c .tasks;
+  board = c .board;
+  allowed = λ s t l r p q. moduleRules c (t + 1) l r p;
+  response = λ s t l r p q. response c s (t + 1) l r p q;
+  grain = grain;
+  unit = 1;
+  price = λ s t l r p q. r * p;
+}
+
+-- a problem of which only the size counts
+abbrev pub ofSize : ℕ → ℕ → Problem
+ofSize k p = record { tasks = k; board = p; allowed = λ s t l r p q. false; response = λ s t l r p q. 0; grain = grain; unit = 1; price = λ s t l r p q. r * p }
+
+-- the greatest threshold: no response is above 23,000,000 ticks
+abbrev pub topThreshold : ℕ
+topThreshold = 23552000000
+
+-- the board is in range
+pub record Sized (b : Board) : Type 0 where
+  pub some-tasks : 1 ≤ b .tasks
+  pub most-tasks : b .tasks ≤ 12
+  pub some-cores : 1 ≤ b .cores
+  pub most-cores : b .cores ≤ 32
+
+-- the work area holds the table, and no number in it is above the cap
+pub record Holds (b : Board) (w : List ℕ) : Type 0 where
+  pub sized : Sized b
+  pub long : cells (ofSize (b .tasks) (b .cores)) ≤ length w
+  pub low : (j : ℕ) → getD w j 0 ≤ b .cores + 1
+
+-- a module of q cores after the task t and a module of s cores: it is on the board, and the threshold in range
+pub record Placed (b : Board) (n s t q : ℕ) : Type 0 where
+  pub threshold : n ≤ topThreshold
+  pub inside : t ≤ b .tasks
+  pub some-cores : 1 ≤ q
+  pub room : s + q ≤ b .cores
+
+-- what is known of the module up to task l: its memory fits, what it takes before it sends, and whether it may have copies
+pub record Loaded (c : Chain) (s t q l base : ℕ) (rep : Bool) : Type 0 where
+  pub later : t < l
+  pub inside : l ≤ c .tasks
+  pub fits : memoryFits c (t + 1) l q ≡ true
+  pub taken : base ≡ transfer c t s q + body c (t + 1) l q
+  pub low : base < 17592186044416
+  pub replicable : rep ≡ copiesAllowed c (t + 1) l 2
+
+-- the room that a module leaves: none before the first
+unfoldable pub roomOf : Chain → ℕ → Passed → Room
+roomOf c n m q = cond (eqb (m .last) 0) (m .left) (pick (fitsAt (problem c) n (m .before) (m .from) (m .last) (m .copies) (m .cores) q) (m .left) 0)
+
+-- ---- the walk
+
+module _ (c : Chain) (w : List ℕ) (n : ℕ) (m : Passed) where
+  -- the module l r p may come after m
+  abbrev pub mayCome : (l r p : ℕ) → Bool
+  mayCome l r p = choice (problem c) (fitsAt (problem c) n) (readTable (problem c) w) (m .cores) (m .last) (roomOf c n m) l r p
+
+  -- x is the first count of cores, with the last task l and r copies, that may come, or 0 where none may
+  pub record FirstCores (l r x : ℕ) : Type 0 where
+    pub high : x ≤ c .board
+    pub comes : 1 ≤ x → mayCome l r x ≡ true
+    pub none-below : 1 ≤ x → (p : ℕ) → p < x → mayCome l r p ≡ false
+    pub none : x ≡ 0 → (p : ℕ) → p ≤ c .board → mayCome l r p ≡ false
+
+  -- x has the first copies with their first cores, with the last task l, or 0 copies where none may come
+  pub record FirstCopies (l : ℕ) (x : Module) : Type 0 where
+    pub first : x .first ≡ m .last + 1
+    pub last : x .last ≡ l
+    pub high : (x .copies ≤ c .board) × (x .cores ≤ c .board)
+    pub comes : 1 ≤ x .copies → mayCome l (x .copies) (x .cores) ≡ true
+    pub none-below : 1 ≤ x .copies → (r : ℕ) → r < x .copies → (p : ℕ) → p ≤ c .board → mayCome l r p ≡ false
+    pub first-cores : 1 ≤ x .copies → (p : ℕ) → p < x .cores → mayCome l (x .copies) p ≡ false
+    pub none : x .copies ≡ 0 → (r : ℕ) → r ≤ c .board → (p : ℕ) → p ≤ c .board → mayCome l r p ≡ false
+
+  -- some module may come
+  pub record SomeNext : Type 0 where
+    pub last : ℕ
+    pub copies : ℕ
+    pub cores : ℕ
+    pub inside : (last ≤ c .tasks) × (copies ≤ c .board) × (cores ≤ c .board)
+    pub comes : mayCome last copies cores ≡ true

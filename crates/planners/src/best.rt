@@ -1,0 +1,75 @@
+// Document 01's Best plan: least bottleneck, then fewest cores, then module order.
+ghost use mathlib.Core.Path.{_≡_};
+ghost use Prim.Native.Nat.{_≤_};
+ghost use lib.ListN.{length, replicate};
+ghost use Rattle.records.specs.Format.{IsCosts};
+ghost use Rattle.figures.specs.Model.{chainOf};
+ghost use Rattle.figures.specs.Plan.{planBytes};
+ghost use Rattle.planners.specs.Best.{workWords, bestPlan, foundAnswer, foundBytes, bestAnswer, bestBytes, bestWork};
+use crate::bisect::cores_within;
+use crate::bisect::least_threshold;
+use crate::lent::PLAN_BYTES;
+use crate::lent::put_plan;
+use crate::lent::refuse;
+use crate::path::lay_path;
+use figures::Answer;
+use records::Board;
+
+const WORK_WORDS: usize = 16384;
+
+// The greatest threshold: 1024 times 23,000,000 ticks, more than which no module takes.
+const TOP: u64 = 23552000000;
+
+fn zero(work: &mut [u32])
+    ensures { λ _. ⌜ now (work .exit) ≡ replicate (length (now (work .entry))) 0 ⌝ }
+{
+    let mut i: usize = 0;
+    while i < work.len() {
+        work[i] = 0;
+        i += 1;
+    }
+}
+
+// The search on accepted costs: the plan's figures, or refusal 9. The work area is zero before and holds the tables.
+fn search(costs: &[u8], board: Board, plan: &mut [u8], work: &mut [u32]) -> Answer
+    requires { ⌜ IsCosts (now costs) board × (planBytes ≤ length (now plan)) × (workWords ≤ length (now work)) × (now work ≡ replicate (length (now work)) 0) ⌝ }
+    ensures { λ r. ⌜ (r ≡ foundAnswer (chainOf (now (costs .entry)) board) (bestPlan (chainOf (now (costs .entry)) board)))
+        × (now (plan .exit) ≡ foundBytes (bestPlan (chainOf (now (costs .entry)) board)) (now (plan .entry)))
+        × (length (now (work .exit)) ≡ length (now (work .entry))) ⌝ }
+{
+    let most = board.cores as u32;
+    let some = cores_within(costs, board, work, TOP);
+    if most < some {
+        return refuse(9, 0);
+    }
+    let n = least_threshold(costs, board, work, TOP);
+    let cores = cores_within(costs, board, work, n);
+    let mut path = [0u8; 48];
+    lay_path(costs, board, work, n, cores, &mut path);
+    put_plan(path, plan);
+    figures::figures(costs, board, &path)
+}
+
+// Fills in the plan that comes before all others that keep the rules, or refuses. Afterwards the whole work area is zero, or
+// untouched where no search has begun.
+pub fn best_plan(costs: &[u8], plan: &mut [u8], work: &mut [u32]) -> Answer
+    ensures { λ r. ⌜ (r ≡ bestAnswer (now (costs .entry)) (now (plan .entry)) (now (work .entry)))
+        × (now (plan .exit) ≡ bestBytes (now (costs .entry)) (now (plan .entry)) (now (work .entry)))
+        × (now (work .exit) ≡ bestWork (now (costs .entry)) (now (plan .entry)) (now (work .entry))) ⌝ }
+{
+    let read = records::read(costs);
+    if read.number != 0 {
+        return refuse(read.number, read.place);
+    }
+    if plan.len() < PLAN_BYTES {
+        return refuse(7, 0);
+    }
+    if work.len() < WORK_WORDS {
+        return refuse(8, 0);
+    }
+    let board = read.board;
+    zero(work);
+    let answer = search(costs, board, plan, work);
+    zero(work);
+    answer
+}

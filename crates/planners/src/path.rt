@@ -1,0 +1,234 @@
+// The walk: module by module, the first in module order after which the rest still fits in what is left.
+ghost use mathlib.Core.Path.{_≡_};
+ghost use mathlib.Core.List.{[]};
+ghost use Prim.Native.Nat.{_+_, _≤_, _<_};
+ghost use Rattle.figures.specs.Model.{chainOf};
+ghost use Rattle.figures.specs.Plan.{encodePlan};
+ghost use Rattle.search.specs.Best.{fitsAt, light, tableAt, plan as planOf};
+ghost use Rattle.search.specs.Flat.{readTable, Filled};
+ghost use Rattle.search.specs.Walk.{choice as choiceOf, chosen, goesOn};
+ghost use Rattle.planners.specs.Search.{problem, topThreshold, Sized, Holds, roomOf, FirstCores, FirstCopies, SomeNext};
+use crate::table::read_table;
+use figures::Module;
+use records::Board;
+
+// The module that the walk has passed: in its place, with its copies and cores, and what was left at its cores less its own.
+pub(crate) struct Passed {
+    pub before: u8,
+    pub from: u8,
+    pub last: u8,
+    pub copies: u8,
+    pub cores: u8,
+    pub left: u32,
+}
+
+// Whether the module of tasks t + 1 to l keeps the rules, is within n and has room, between modules of s and q cores.
+fn fits_at(costs: &[u8], board: Board, n: u64, s: u8, t: u8, l: u8, r: u8, p: u8, q: u8) -> bool
+    requires { ⌜ Sized board × (n ≤ topThreshold) ⌝ }
+    ensures { λ x. ⌜ x ≡ fitsAt (problem (chainOf (now (costs .entry)) board)) n s t l r p q ⌝ }
+{
+    if l <= t {
+        return false;
+    }
+    if board.tasks < l {
+        return false;
+    }
+    if r < 1 {
+        return false;
+    }
+    if p < 1 {
+        return false;
+    }
+    if (board.cores as u32) < (s as u32) + (r as u32) * (p as u32) + (q as u32) {
+        return false;
+    }
+    let first = t + 1;
+    if !figures::rules_met(costs, board, first, l, r, p) {
+        return false;
+    }
+    let m = Module {
+        first,
+        last: l,
+        copies: r,
+        cores: p,
+    };
+    let response = figures::response_of(costs, board, s, m, q);
+    response * 1024 <= n * (r as u64)
+}
+
+// What is left for a module of q cores and all after it, one more than its cores may be.
+fn room_of(costs: &[u8], board: Board, n: u64, m: Passed, q: u8) -> u32
+    requires { ⌜ Sized board × (n ≤ topThreshold) ⌝ }
+    ensures { λ r. ⌜ r ≡ roomOf (chainOf (now (costs .entry)) board) n m q ⌝ }
+{
+    if m.last == 0 {
+        return m.left;
+    }
+    if fits_at(
+        costs,
+        board,
+        n,
+        m.before,
+        m.from,
+        m.last,
+        m.copies,
+        m.cores,
+        q,
+    ) {
+        return m.left;
+    }
+    0
+}
+
+// Whether the module l r p fits where the next has q cores, and there is room for it and the lightest rest.
+fn goes_on(
+    costs: &[u8],
+    board: Board,
+    work: &[u32],
+    n: u64,
+    s: u8,
+    t: u8,
+    room: u32,
+    l: u8,
+    r: u8,
+    p: u8,
+    q: u8,
+) -> bool
+    requires { ⌜ Holds board (now work) × (n ≤ topThreshold) × (t < l) × (l ≤ board .tasks) × (1 ≤ p) × (p ≤ board .cores) × (q ≤ board .cores) ⌝ }
+    ensures { λ x. ⌜ x ≡ goesOn (problem (chainOf (now (costs .entry)) board)) (fitsAt (problem (chainOf (now (costs .entry)) board)) n)
+        (readTable (problem (chainOf (now (costs .entry)) board)) (now (work .entry))) s t (λ _. room) l r p q ⌝ }
+{
+    let rest = read_table(work, board, p, l, q);
+    let weight = (r as u32) * (p as u32) + rest;
+    if room <= weight {
+        return false;
+    }
+    fits_at(costs, board, n, s, t, l, r, p, q)
+}
+
+// Whether the module l r p may come next.
+fn may_come(
+    costs: &[u8],
+    board: Board,
+    work: &[u32],
+    n: u64,
+    m: Passed,
+    l: u8,
+    r: u8,
+    p: u8,
+) -> bool
+    requires { ⌜ Holds board (now work) × (n ≤ topThreshold) × (m .last < l) × (l ≤ board .tasks) × (1 ≤ p) × (p ≤ board .cores) ⌝ }
+    ensures { λ x. ⌜ x ≡ choiceOf (problem (chainOf (now (costs .entry)) board)) (fitsAt (problem (chainOf (now (costs .entry)) board)) n)
+        (readTable (problem (chainOf (now (costs .entry)) board)) (now (work .entry))) (m .cores) (m .last) (roomOf (chainOf (now (costs .entry)) board) n m) l r p ⌝ }
+{
+    let room = room_of(costs, board, n, m, p);
+    let mut q: u8 = 0;
+    while q <= board.cores {
+        if goes_on(costs, board, work, n, m.cores, m.last, room, l, r, p, q) {
+            return true;
+        }
+        q += 1;
+    }
+    false
+}
+
+// The first cores of a module with that last task and those copies that may come next; 0 where none may.
+fn first_cores(costs: &[u8], board: Board, work: &[u32], n: u64, m: Passed, l: u8, r: u8) -> u8
+    requires { ⌜ Holds board (now work) × (n ≤ topThreshold) × (m .last < l) × (l ≤ board .tasks) ⌝ }
+    ensures { λ x. ⌜ FirstCores (chainOf (now (costs .entry)) board) (now (work .entry)) n m l r x ⌝ }
+{
+    let mut p: u8 = 1;
+    while p <= board.cores {
+        if may_come(costs, board, work, n, m, l, r, p) {
+            return p;
+        }
+        p += 1;
+    }
+    0
+}
+
+// The first copies, with their first cores, of a module with that last task that may come next; copies 0 where none may.
+fn first_copies(costs: &[u8], board: Board, work: &[u32], n: u64, m: Passed, l: u8) -> Module
+    requires { ⌜ Holds board (now work) × (n ≤ topThreshold) × (m .last < l) × (l ≤ board .tasks) ⌝ }
+    ensures { λ x. ⌜ FirstCopies (chainOf (now (costs .entry)) board) (now (work .entry)) n m l x ⌝ }
+{
+    let first = m.last + 1;
+    let mut r: u8 = 1;
+    while r <= board.cores {
+        let p = first_cores(costs, board, work, n, m, l, r);
+        if p != 0 {
+            return Module {
+                first,
+                last: l,
+                copies: r,
+                cores: p,
+            };
+        }
+        r += 1;
+    }
+    Module {
+        first,
+        last: l,
+        copies: 0,
+        cores: 0,
+    }
+}
+
+// The module that comes next, where some may.
+fn next_module(costs: &[u8], board: Board, work: &[u32], n: u64, m: Passed) -> Module
+    requires { ⌜ Holds board (now work) × (n ≤ topThreshold) × (m .last < board .tasks) × SomeNext (chainOf (now costs) board) (now work) n m
+        × Filled (problem (chainOf (now costs) board)) (fitsAt (problem (chainOf (now costs) board)) n) (now work) 0 ⌝ }
+    ensures { λ x. ⌜ x ≡ chosen (problem (chainOf (now (costs .entry)) board)) (fitsAt (problem (chainOf (now (costs .entry)) board)) n)
+        (tableAt (problem (chainOf (now (costs .entry)) board)) n) (m .cores) (m .last) (roomOf (chainOf (now (costs .entry)) board) n m) ⌝ }
+{
+    let mut l = m.last + 1;
+    while l < board.tasks {
+        let x = first_copies(costs, board, work, n, m, l);
+        if x.copies != 0 {
+            return x;
+        }
+        l += 1;
+    }
+    first_copies(costs, board, work, n, m, l)
+}
+
+// Fills blank plan bytes with the first plan of the fewest cores within n, from the table of n.
+pub(crate) fn lay_path(
+    costs: &[u8],
+    board: Board,
+    work: &[u32],
+    n: u64,
+    cores: u32,
+    plan: &mut [u8],
+)
+    requires { ⌜ Holds board (now work) × (n ≤ topThreshold) × (cores ≡ light (problem (chainOf (now costs) board)) n) × (cores ≤ board .cores)
+        × Filled (problem (chainOf (now costs) board)) (fitsAt (problem (chainOf (now costs) board)) n) (now work) 0 × (now plan ≡ encodePlan []) ⌝ }
+    ensures { λ _. ⌜ now (plan .exit) ≡ encodePlan (planOf (problem (chainOf (now (costs .entry)) board)) n) ⌝ }
+{
+    let left = cores + 1;
+    let mut m = Passed {
+        before: 0,
+        from: 0,
+        last: 0,
+        copies: 0,
+        cores: 0,
+        left,
+    };
+    let mut i: u32 = 0;
+    while m.last < board.tasks {
+        let x = next_module(costs, board, work, n, m);
+        let room = room_of(costs, board, n, m, x.cores);
+        let rest = room - (x.copies as u32) * (x.cores as u32);
+        figures::put_module(plan, i, x);
+        let next = Passed {
+            before: m.cores,
+            from: m.last,
+            last: x.last,
+            copies: x.copies,
+            cores: x.cores,
+            left: rest,
+        };
+        m = next;
+        i += 1;
+    }
+}

@@ -1,0 +1,188 @@
+// The table of a threshold: the least cores of a plan of the tasks that are left, one word for each kind 5 record in the same
+// order, filled from its end. One more than the board's cores stands for "none".
+ghost use mathlib.Core.Path.{_≡_};
+ghost use mathlib.Core.Bool.{true};
+ghost use Prim.Native.Nat.{_+_, _≤_, _<_};
+ghost use lib.ListN.{length};
+ghost use Rattle.figures.specs.Model.{chainOf};
+ghost use Rattle.figures.specs.Rules.{memoryFits};
+ghost use Rattle.search.specs.Least.{lesser as lesserOf};
+ghost use Rattle.search.specs.Copies.{fewest};
+ghost use Rattle.search.specs.Weight.{overCopies, overNext, overLast};
+ghost use Rattle.search.specs.Best.{fitsAt, light};
+ghost use Rattle.search.specs.Flat.{readTable, cells, cell, Filled};
+ghost use Rattle.planners.specs.Search.{problem, ofSize, topThreshold, Holds, Placed, Loaded};
+use records::Board;
+
+// Fractions whose denominators are at most 32 are equal or at least 1/1024 apart.
+const GRAIN: u64 = 1024;
+
+fn lesser(a: u32, b: u32) -> u32
+    ensures { λ r. ⌜ r ≡ lesserOf a b ⌝ }
+{
+    if a <= b { a } else { b }
+}
+
+// The fewest copies that bring the load, one of a single copy and more of each of several, down to n; 0 where none do.
+fn fewest_copies(rep: bool, one: u64, more: u64, n: u64) -> u64
+    requires { ⌜ more + n < 18446744073709551616 ⌝ }
+    ensures { λ r. ⌜ r ≡ fewest rep one more n ⌝ }
+{
+    if one <= n {
+        return 1;
+    }
+    if rep {
+        if 1 <= n {
+            return (more + n - 1) / n;
+        }
+    }
+    0
+}
+
+// The table after a module of s cores and task t, where the next module has q cores.
+pub(crate) fn read_table(work: &[u32], board: Board, s: u8, t: u8, q: u8) -> u32
+    requires { ⌜ Holds board (now work) × (1 ≤ s) × (s ≤ board .cores) × (1 ≤ t) × (t ≤ board .tasks) × (q ≤ board .cores) ⌝ }
+    ensures { λ r. ⌜ (r ≡ readTable (ofSize (board .tasks) (board .cores)) (now (work .entry)) s t q) × (r ≤ board .cores + 1) ⌝ }
+{
+    let cores = board.cores as usize;
+    if t == board.tasks {
+        if q == 0 {
+            return 0;
+        }
+        return (board.cores as u32) + 1;
+    }
+    if q == 0 {
+        return (board.cores as u32) + 1;
+    }
+    let row = ((t as usize) - 1) * cores + ((s as usize) - 1);
+    let i = row * cores + ((q as usize) - 1);
+    work[i]
+}
+
+// The least over the copies of the module up to task l, before one of q2 cores.
+fn over_copies(
+    costs: &[u8],
+    board: Board,
+    work: &[u32],
+    n: u64,
+    s: u8,
+    t: u8,
+    q: u8,
+    l: u8,
+    q2: u8,
+    base: u64,
+    rep: bool,
+) -> u32
+    requires { ⌜ Holds board (now work) × Placed board n s t q × Loaded (chainOf (now costs) board) s t q l base rep × (q2 ≤ board .cores) ⌝ }
+    ensures { λ r. ⌜ (r ≡ overCopies (problem (chainOf (now (costs .entry)) board)) (fitsAt (problem (chainOf (now (costs .entry)) board)) n)
+        (readTable (problem (chainOf (now (costs .entry)) board)) (now (work .entry))) s t q l q2) × (r ≤ board .cores + 1) ⌝ }
+{
+    let cores = board.cores as u32;
+    let none = cores + 1;
+    let load = (base + (figures::transfer(costs, board, l, q, q2) as u64)) * GRAIN;
+    let r = fewest_copies(rep, load, load, n);
+    if r < 1 {
+        return none;
+    }
+    if (board.cores as u64) < r {
+        return none;
+    }
+    let price = (r as u32) * (q as u32);
+    if cores < (s as u32) + price + (q2 as u32) {
+        return none;
+    }
+    let rest = read_table(work, board, q, l, q2);
+    lesser(none, price + rest)
+}
+
+// And over the cores of the module after it, where its memory fits.
+fn over_next(costs: &[u8], board: Board, work: &[u32], n: u64, s: u8, t: u8, q: u8, l: u8) -> u32
+    requires { ⌜ Holds board (now work) × Placed board n s t q × (t < l) × (l ≤ board .tasks) × (memoryFits (chainOf (now costs) board) (t + 1) l q ≡ true) ⌝ }
+    ensures { λ r. ⌜ (r ≡ overNext (problem (chainOf (now (costs .entry)) board)) (fitsAt (problem (chainOf (now (costs .entry)) board)) n)
+        (readTable (problem (chainOf (now (costs .entry)) board)) (now (work .entry))) s t q l) × (r ≤ board .cores + 1) ⌝ }
+{
+    let received = figures::transfer(costs, board, t, s, q) as u64;
+    let base = received + figures::body(costs, board, t + 1, l, q);
+    let rep = figures::rules_met(costs, board, t + 1, l, 2, q);
+    if l == board.tasks {
+        return over_copies(costs, board, work, n, s, t, q, l, 0, base, rep);
+    }
+    let end = board.cores - (s + q);
+    let mut m = (board.cores as u32) + 1;
+    let mut i: u8 = 1;
+    while i <= end {
+        let v = over_copies(costs, board, work, n, s, t, q, l, i, base, rep);
+        m = lesser(m, v);
+        i += 1;
+    }
+    m
+}
+
+// And over its last task, up to the first that its memory does not allow: one cell of the table.
+fn over_last(costs: &[u8], board: Board, work: &[u32], n: u64, s: u8, t: u8, q: u8) -> u32
+    requires { ⌜ Holds board (now work) × Placed board n s t q ⌝ }
+    ensures { λ r. ⌜ (r ≡ overLast (problem (chainOf (now (costs .entry)) board)) (fitsAt (problem (chainOf (now (costs .entry)) board)) n)
+        (readTable (problem (chainOf (now (costs .entry)) board)) (now (work .entry))) s t q) × (r ≤ board .cores + 1) ⌝ }
+{
+    let mut m = (board.cores as u32) + 1;
+    let mut l = t + 1;
+    while l <= board.tasks {
+        if !figures::memory_fits(costs, board, t + 1, l, q) {
+            return m;
+        }
+        let v = over_next(costs, board, work, n, s, t, q, l);
+        m = lesser(m, v);
+        l += 1;
+    }
+    m
+}
+
+// Cell m, from a table that holds the later ones.
+fn cell_at(costs: &[u8], board: Board, work: &[u32], n: u64, m: u32) -> u32
+    requires { ⌜ Holds board (now work) × (n ≤ topThreshold) × (m < cells (problem (chainOf (now costs) board)))
+        × Filled (problem (chainOf (now costs) board)) (fitsAt (problem (chainOf (now costs) board)) n) (now work) (m + 1) ⌝ }
+    ensures { λ r. ⌜ (r ≡ cell (problem (chainOf (now (costs .entry)) board)) (fitsAt (problem (chainOf (now (costs .entry)) board)) n) m) × (r ≤ board .cores + 1) ⌝ }
+{
+    let cores = board.cores as u32;
+    let square = cores * cores;
+    let t = m / square + 1;
+    let s = m / cores % cores + 1;
+    let q = m % cores + 1;
+    if s + q <= cores {
+        return over_last(costs, board, work, n, s as u8, t as u8, q as u8);
+    }
+    cores + 1
+}
+
+// The whole table of the threshold n, from its end.
+pub(crate) fn fill_table(costs: &[u8], board: Board, work: &mut [u32], n: u64)
+    requires { ⌜ Holds board (now work) × (n ≤ topThreshold) ⌝ }
+    ensures { λ _. ⌜ Holds board (now (work .exit)) × (length (now (work .exit)) ≡ length (now (work .entry)))
+        × Filled (problem (chainOf (now (costs .entry)) board)) (fitsAt (problem (chainOf (now (costs .entry)) board)) n) (now (work .exit)) 0 ⌝ }
+{
+    let cores = board.cores as u32;
+    let square = cores * cores;
+    let mut m = ((board.tasks as u32) - 1) * square;
+    while 0 < m {
+        m -= 1;
+        let v = cell_at(costs, board, work, n, m);
+        let i = m as usize;
+        work[i] = v;
+    }
+}
+
+// The least cores of a plan within the threshold n, from its table.
+pub(crate) fn least_cores(costs: &[u8], board: Board, work: &[u32], n: u64) -> u32
+    requires { ⌜ Holds board (now work) × (n ≤ topThreshold)
+        × Filled (problem (chainOf (now costs) board)) (fitsAt (problem (chainOf (now costs) board)) n) (now work) 0 ⌝ }
+    ensures { λ r. ⌜ (r ≡ light (problem (chainOf (now (costs .entry)) board)) n) × (r ≤ board .cores + 1) ⌝ }
+{
+    let mut m = (board.cores as u32) + 1;
+    let mut q: u8 = 1;
+    while q <= board.cores {
+        let v = over_last(costs, board, work, n, 0, 0, q);
+        m = lesser(m, v);
+        q += 1;
+    }
+    m
+}
