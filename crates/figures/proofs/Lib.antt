@@ -8,6 +8,7 @@ pub mod Left
 pub mod Limits
 pub mod Listed
 pub mod Passing
+pub mod Placing
 pub mod Shapes
 pub mod Sums
 pub mod Tops

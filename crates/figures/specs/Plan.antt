@@ -1,10 +1,10 @@
 -- Plan bytes (document 01, "Plan bytes") and module order. Assumes nothing.
 use Prim.Native.Nat.{ℕ, zero, suc, _+_, _-_, _*_, _<_}
 use mathlib.Core.Path.{_≡_}
-use mathlib.Core.List.{List, [], _∷_}
+use mathlib.Core.List.{List, [], _∷_, _++_}
 use mathlib.Core.Logic.{_⊎_}
 use mathlib.Core.Bool.{cond, _&&_}
-use lib.ListN.{length, getD}
+use lib.ListN.{length, getD, drop}
 use lib.Seq.{sets}
 use lib.Dec.{leb, ltb, eqb}
 use Rattle.figures.specs.declared.Module.{Module}
@@ -70,6 +70,10 @@ encodePlan ms = encode mostModules ms
 unfoldable pub putModule : List ℕ → ℕ → Module → List ℕ
 putModule w i m =
     cond (ltb i mostModules && leb planBytes (length w)) (sets w (4 * i) (m .first ∷ m .last ∷ m .copies ∷ m .cores ∷ [])) w
+
+-- the bytes w with the plan v at their start, where they have room for one
+unfoldable pub putPlan : List ℕ → List ℕ → List ℕ
+putPlan v w = cond (leb planBytes (length w)) (v ++ drop planBytes w) w
 
 -- ---- figures
 

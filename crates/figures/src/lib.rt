@@ -15,11 +15,13 @@ pub use plan::figures;
 pub use plan::module_at;
 pub use plan::module_count;
 pub use plan::put_module;
+pub use plan::put_plan;
 pub use plan::response;
 pub use rules::fewest_cores;
 pub use rules::memory_fits;
 pub use rules::rules_met;
 pub use verdict::judge;
+pub use verdict::refuse;
 
 // A module of a plan: an unbroken run of tasks, first to last, in r copies of p cores each.
 pub struct Module {

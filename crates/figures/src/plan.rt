@@ -6,7 +6,7 @@ ghost use Prim.Native.Nat.{_+_, _-_, _≤_, _<_};
 ghost use lib.Dec.{ltb};
 ghost use lib.ListN.{getD};
 ghost use Rattle.figures.specs.Model.{chainOf, coresOf, slowerOf, bottleneck};
-ghost use Rattle.figures.specs.Plan.{mostModules, moduleAt, recordOf, coresBefore, moduleCount, modulesFrom, modulesOf, slownessAt, putModule, figuresOf, responseAt};
+ghost use Rattle.figures.specs.Plan.{mostModules, moduleAt, recordOf, coresBefore, moduleCount, modulesFrom, modulesOf, slownessAt, putModule, putPlan, figuresOf, responseAt};
 use crate::Answer;
 use crate::Module;
 use crate::Slowest;
@@ -79,6 +79,20 @@ pub fn put_module(plan: &mut [u8], i: u32, m: Module)
             plan[at + 2] = m.copies;
             plan[at + 3] = m.cores;
         }
+    }
+}
+
+// Copies a whole plan to the start of the lent bytes, where they have room for one.
+pub fn put_plan(from: [u8; 48], plan: &mut [u8])
+    ensures { λ _. ⌜ now (plan .exit) ≡ putPlan from (now (plan .entry)) ⌝ }
+{
+    if plan.len() < PLAN_BYTES {
+        return;
+    }
+    let mut i: usize = 0;
+    while i < PLAN_BYTES {
+        plan[i] = from[i];
+        i += 1;
     }
 }
 

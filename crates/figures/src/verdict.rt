@@ -16,7 +16,8 @@ use crate::rules::copies_allowed;
 use crate::rules::memory_fits;
 use records::Board;
 
-fn refuse(number: u32, place: u32) -> Answer
+// A refusal by its number and place, with zero figures.
+pub fn refuse(number: u32, place: u32) -> Answer
     ensures { λ r. ⌜ r ≡ refusal number place ⌝ }
 {
     Answer {

@@ -23,7 +23,7 @@ use Rattle.search.proofs.Find.{some-e}
 use Rattle.search.proofs.Steps.{walking-start, walking-end, chosen-bounds, chosen-passes, walking-next}
 use Rattle.planners.specs.declared.path.Passed.{Passed}
 use Rattle.planners.specs.Search.{problem, roomOf, SomeNext}
-use Rattle.planners.proofs.Bytes.{put-bytes}
+use Rattle.figures.proofs.Placing.{put-bytes}
 use Rattle.planners.proofs.Cells.{chain-cap}
 use Rattle.planners.proofs.Coming.{read-choice}
 use Rattle.planners.proofs.Instance.{problem-laws}

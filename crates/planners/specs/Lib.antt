@@ -1,5 +1,3 @@
-pub mod Assignment
 pub mod Best
 pub mod Claims
-pub mod Greedy
 pub mod Search

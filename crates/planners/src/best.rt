@@ -8,12 +8,14 @@ ghost use Rattle.figures.specs.Plan.{planBytes};
 ghost use Rattle.planners.specs.Best.{workWords, bestPlan, foundAnswer, foundBytes, bestAnswer, bestBytes, bestWork};
 use crate::bisect::cores_within;
 use crate::bisect::least_threshold;
-use crate::lent::PLAN_BYTES;
-use crate::lent::put_plan;
-use crate::lent::refuse;
 use crate::path::lay_path;
 use figures::Answer;
+use figures::put_plan;
+use figures::refuse;
 use records::Board;
+
+// The bytes of a plan.
+const PLAN_BYTES: usize = 48;
 
 const WORK_WORDS: usize = 16384;
 

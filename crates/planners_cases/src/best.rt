@@ -23,6 +23,17 @@ fn best_memory(file: &mut [u8]) {
     put_value(file, 0, 100);
 }
 
+// The small dock with all times 0: its memory asks for two cores.
+pub(crate) fn best_idle() {
+    let mut space = [0u8; 248];
+    let file: &mut [u8] = &mut space;
+    put_chain(file, 2, 4);
+    put_value(file, 1, 50);
+    put_value(file, 2, 150);
+    text(b"best: all times 0\n");
+    best(file);
+}
+
 // One byte short, one word short, both long, and costs that are refused before either.
 pub(crate) fn best_order(file: &mut [u8]) {
     text(b"best: 47 bytes, 16383 words, both, longer buffers, damaged costs\n");

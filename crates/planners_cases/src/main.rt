@@ -6,6 +6,7 @@ mod chains;
 mod show;
 
 use best::best_fractions;
+use best::best_idle;
 use best::best_order;
 use best::best_small;
 use best::largest;
@@ -140,6 +141,7 @@ fn main() {
     let mut file = [0u8; 248];
     io::read_full(STDIN_FILENO, &mut file);
     best_small(&mut file);
+    best_idle();
     best_order(&mut file);
     greedy_way(&mut file);
     predecessor_first();

@@ -72,7 +72,7 @@ pub(crate) fn greedy_lent(costs: &[u8], grouping: u16, lent: usize) {
     let mut space = [LENT; 60];
     let file: &mut [u8] = &mut space;
     if lent <= file.len() {
-        let a = planners::greedy_plan(costs, grouping, &mut file[..lent]);
+        let a = greedy::greedy_plan(costs, grouping, &mut file[..lent]);
         answer(a);
         bytes(file);
     }
@@ -80,7 +80,7 @@ pub(crate) fn greedy_lent(costs: &[u8], grouping: u16, lent: usize) {
 
 pub(crate) fn greedy(costs: &[u8], grouping: u16) {
     let mut plan = [LENT; 48];
-    let a = planners::greedy_plan(costs, grouping, &mut plan);
+    let a = greedy::greedy_plan(costs, grouping, &mut plan);
     answer(a);
     bytes(&plan);
 }

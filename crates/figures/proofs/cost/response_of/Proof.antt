@@ -1,5 +1,5 @@
 -- `response_of` is the chain's: the task before the first is the first less 1, also where there is none.
-use mathlib.Core.Path.{_≡_}
+use mathlib.Core.Path.{_≡_, refl}
 use mathlib.Core.Logic.{⊎-elim}
 use Prim.Native.Nat.{_-_}
 use native.Mathlib.Omega.{arith}
@@ -36,8 +36,10 @@ returns : tie.Need-returns
 unfolding response
 returns c =
     let i = c .before .before .before .if1 in
-    let e : i .before ≡ c .before .before .before .before .before .before .args .m .first - 1 = ⊎-elim (λ w. omega arith) (λ w. omega arith) (i .came) in
-    (cc, omega arith)
+    let e : i .before ≡ c .before .before .before .before .before .before .args .m .first - 1 = ⊎-elim (λ w. omega arith) (λ w. omega arith) (i .came) in (
+      rw (c .before .before .transfer .ensures, c .before .transfer2 .ensures, c .body .ensures .0, e) (refl),
+      omega arith,
+    )
 
 pub response-of-spec : {M : Type 1} → statement M
 response-of-spec =

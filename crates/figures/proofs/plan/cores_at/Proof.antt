@@ -1,4 +1,5 @@
 -- `cores_at` is the i-th module's cores where there is such a module: the test is the definition's.
+use mathlib.Core.Path.{refl}
 use borrow.Author.Tests.{lt-ltb, le-ltb}
 use borrow.Author.Needs.{needs}
 use Rattle.figures.proofs.plan.cores_at.Statement.{statement}
@@ -8,7 +9,7 @@ record-at-requires : tie.Need-record-at-requires
 record-at-requires c κs = search needs
 
 returns : tie.Need-returns
-returns c = simp (lt-ltb _ _ (c .before .if1 .taken)) (cc)
+returns c = rw (lt-ltb _ _ (c .before .if1 .taken), c .record-at .ensures) (refl)
 
 returns-2 : tie.Need-returns-2
 returns-2 c = simp (le-ltb _ _ (c .if1 .left))

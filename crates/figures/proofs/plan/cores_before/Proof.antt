@@ -1,4 +1,5 @@
 -- `cores_before` is `coresBefore`: the record before the i-th is the one at i - 1.
+use mathlib.Core.Path.{sym}
 use native.Mathlib.Omega.{arith}
 use Rattle.figures.specs.Plan.{coresBefore}
 use Rattle.figures.proofs.Listed.{cores-before-some}
@@ -19,7 +20,7 @@ record-at-requires c κs = search needs
 returns-2 : tie.Need-returns-2
 returns-2 c =
     let a = c .before .before .before .args in
-    cc (cores-before-some (a .plan .now) (a .i) (omega arith))
+    rw (c .record-at .ensures) (sym (cores-before-some (a .plan .now) (a .i) (omega arith)))
 
 pub cores-before-spec : {M : Type 1} → statement M
 cores-before-spec = tie.close (tie.spec returns sub-record-at record-at-requires returns-2)

@@ -1,4 +1,5 @@
 -- `figures` is `figuresOf`: a plan has as many modules as are counted.
+use mathlib.Core.Path.{refl}
 use Rattle.figures.specs.Plan.{modulesOf, figuresOf}
 use Rattle.figures.proofs.Listed.{modules-length}
 use borrow.Author.Needs.{needs}
@@ -20,7 +21,7 @@ returns c =
     let a = c .before .before .before .before .before .args in
     let n = c .before .before .module-count in
     let h = modules-length (a .plan .now) 0 (n .result) in
-    rw (← (n .ensures .0)) (cc)
+    rw (← (n .ensures .0), h, c .before .slowest-of .ensures, c .cores-of .ensures) (refl)
 
 pub figures-spec : {M : Type 1} → statement M
 figures-spec =

@@ -1,4 +1,5 @@
 -- `record_at` is `moduleAt`, byte by byte.
+use mathlib.Core.Path.{refl}
 use borrow.Author.Needs.{needs}
 use Rattle.figures.proofs.plan.record_at.Statement.{statement}
 use Rattle.figures.proofs.plan.record_at.Tie as tie
@@ -28,7 +29,13 @@ byte-at-requires-4 : tie.Need-byte-at-requires-4
 byte-at-requires-4 c κs = search needs
 
 returns : tie.Need-returns
-returns c = cc
+returns c =
+    rw (
+      c .before .before .before .byte-at .ensures,
+      c .before .before .byte-at2 .ensures,
+      c .before .byte-at3 .ensures,
+      c .byte-at4 .ensures,
+    ) (refl)
 
 pub record-at-spec : {M : Type 1} → statement M
 record-at-spec =

@@ -1,4 +1,5 @@
 -- `response` is `responseAt`: the i-th of the responses is the i-th module's, and there is none past the last.
+use mathlib.Core.Path.{sym}
 use Rattle.figures.specs.Model.{chainOf}
 use Rattle.figures.specs.Plan.{modulesOf, responseAt}
 use Rattle.figures.proofs.Listed.{response-some, response-none}
@@ -18,7 +19,7 @@ returns c =
     let a = c .before .before .before .before .before .args in
     let n = c .before .before .module-count in
     let some = response-some (chainOf (a .costs .now) (a .board)) (a .plan .now) (n .result) (a .i) (c .before .if1 .taken) in
-    rw (← (n .ensures .0)) (cc)
+    rw (← (n .ensures .0), c .slowness .ensures .0) (sym some)
 
 returns-2 : tie.Need-returns-2
 unfolding responseAt modulesOf
@@ -26,7 +27,7 @@ returns-2 c =
     let a = c .before .before .before .before .args in
     let n = c .before .module-count in
     let none = response-none (chainOf (a .costs .now) (a .board)) (a .plan .now) (n .result) (a .i) (c .if1 .left) in
-    rw (← (n .ensures .0)) (cc)
+    rw (← (n .ensures .0)) (sym none)
 
 pub response-spec : {M : Type 1} → statement M
 response-spec = tie.close (tie.spec module-count-requires slowness-requires returns returns-2)

@@ -5,6 +5,7 @@ use native.Mathlib.Omega.{arith}
 use borrow.Author.Needs.{needs}
 use Rattle.figures.specs.Model.{chainOf}
 use Rattle.figures.specs.Plan.{encode}
+use Rattle.figures.proofs.Placing.{put-room}
 use Rattle.planners.specs.Search.{topThreshold}
 use Rattle.planners.proofs.Laying.{light-feasible, feasible-light}
 use Rattle.planners.proofs.Serving.{zero-holds, none-answer, none-bytes, plan-answer, plan-bytes}
@@ -77,7 +78,7 @@ returns-2 c =
     let n = c .before .before .before .before .before .before .before .before .before .before .before .before .before .before .before .before .least-threshold in
     let laid = c .before .before .before .before .before .before .before .lay-path .ensures in (
       plan-answer (a .costs .now) (a .board) (s .pre .0) (n .result) (n .ensures .1) (n .ensures .2) laid (c .figures .ensures),
-      plan-bytes (a .costs .now) (a .board) (s .pre .0) (n .result) (n .ensures .1) (n .ensures .2) laid (a .plan .now) (c .before .before .before .before .put-plan .ensures),
+      plan-bytes (a .costs .now) (a .board) (s .pre .0) (n .result) (n .ensures .1) (n .ensures .2) laid (a .plan .now) (c .before .before .before .before .put-plan .ensures ∙ put-room _ (a .plan .now) (s .pre .1)),
       c .before .before .before .before .before .before .before .before .before .before .before .before .cores-within2 .ensures .2 ∙ n .ensures .4 ∙ c .before .before .before .before .before .before .before .before .before .before .before .before .before .before .before .before .before .before .before .before .before .cores-within .ensures .2,
     )
 

@@ -1,3 +1,4 @@
+use mathlib.Core.Path.{refl}
 use Rattle.records.specs.Costs.{valueAt}
 use borrow.Author.Needs.{needs}
 use Rattle.records.proofs.bytes.value_at.Statement.{statement}
@@ -35,7 +36,13 @@ add-result-3 c = search needs
 
 returns : tie.Need-returns
 unfolding valueAt
-returns c = cc
+returns c =
+    rw (
+      c .before .before .before .byte-at .ensures .0,
+      c .before .before .byte-at2 .ensures .0,
+      c .before .byte-at3 .ensures .0,
+      c .byte-at4 .ensures .0,
+    ) (refl)
 
 pub value-at-spec : {M : Type 1} → statement M
 value-at-spec =

@@ -1,5 +1,5 @@
 -- `count` is `countOf`: no sum overflows, since each is a part of a place (`place-bound`).
-use mathlib.Core.Path.{_≡_}
+use mathlib.Core.Path.{refl, _≡_}
 use native.Mathlib.Omega.{arith}
 use Rattle.records.specs.Costs.{countOf}
 use Rattle.records.proofs.Bounds.{product-of-bytes, place-bound}
@@ -46,7 +46,7 @@ mul-result-3 c = omega (arith, add-result-4 c)
 
 returns-2 : tie.Need-returns-2
 unfolding countOf
-returns-2 c = cc
+returns-2 c = rw (c .before .wide .ensures .0, c .wide2 .ensures .0) (refl)
 
 pub count-spec : {M : Type 1} → statement M
 count-spec =

@@ -1,4 +1,5 @@
 -- `cell` is `cellOf` and small: rows before the given one hold at most 255 × 255 places.
+use mathlib.Core.Path.{refl}
 use native.Mathlib.Omega.{arith}
 use Rattle.records.specs.Costs.{cellOf}
 use Rattle.records.proofs.Bounds.{row-of-bytes}
@@ -26,7 +27,7 @@ sub-result-2 c = search needs
 
 returns : tie.Need-returns
 unfolding cellOf
-returns c = (cc, omega (arith, row-of-bytes (c .before .before .wide .ensures .1) (c .before .wide2 .ensures .1)))
+returns c = (rw (c .before .before .wide .ensures .0, c .before .wide2 .ensures .0, c .wide3 .ensures .0) (refl), omega (arith, row-of-bytes (c .before .before .wide .ensures .1) (c .before .wide2 .ensures .1)))
 
 add-result : tie.Need-add-result
 add-result c = omega (arith, returns c .1)

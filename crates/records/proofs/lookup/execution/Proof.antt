@@ -1,5 +1,5 @@
 -- `execution` is `executionOf`: the two tests decide which branch of it is due, and each that passed says what `cell` requires.
-use mathlib.Core.Path.{sym, _∙_}
+use mathlib.Core.Path.{refl, sym, _∙_}
 use native.Mathlib.Omega.{arith}
 use Rattle.records.specs.Costs.{executionOf}
 use Rattle.records.proofs.Inside.{within-bounds}
@@ -43,7 +43,7 @@ returns c =
       first .if1 .taken,
       ← (second .before .is-within2 .ensures),
       second .if2 .taken,
-    ) (cc)
+    ) (c .value-at .ensures ∙ rw (c .before .cell .ensures .0, c .before .before .wide .ensures .0) (refl))
 
 returns-2 : tie.Need-returns-2
 unfolding executionOf

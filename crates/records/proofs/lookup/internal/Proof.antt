@@ -1,5 +1,5 @@
 -- `internal` is `internalOf`: the two tests decide which branch of it is due, and each that passed says what `cell` requires.
-use mathlib.Core.Path.{sym, _∙_}
+use mathlib.Core.Path.{refl, sym, _∙_}
 use native.Mathlib.Omega.{arith}
 use Rattle.records.specs.Costs.{internalOf}
 use Rattle.records.proofs.Bounds.{product-of-bytes}
@@ -53,7 +53,7 @@ returns c =
       first .if1 .taken,
       ← (second .before .is-within .ensures),
       second .if2 .taken,
-    ) (cc)
+    ) (c .value-at .ensures ∙ rw (c .before .cell .ensures .0, c .before .before .wide2 .ensures .0, c .before .before .before .wide .ensures .0) (refl))
 
 returns-2 : tie.Need-returns-2
 unfolding internalOf

@@ -15,7 +15,7 @@ value-at-requires c κs = search needs
 
 returns : tie.Need-returns
 unfolding needOf
-returns c = simp (← (c .before .before .before .is-within .ensures), c .before .before .if1 .taken) (cc)
+returns c = simp (← (c .before .before .before .is-within .ensures), c .before .before .if1 .taken) (rw (← (c .before .wide .ensures .0)) (c .value-at .ensures))
 
 returns-2 : tie.Need-returns-2
 unfolding needOf

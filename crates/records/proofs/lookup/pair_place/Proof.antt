@@ -1,4 +1,5 @@
 -- `pair_place` is `pairPlace`: no sum overflows, since each is a part of a place (`place-bound`).
+use mathlib.Core.Path.{refl}
 use native.Mathlib.Omega.{arith}
 use Rattle.records.specs.Costs.{pairPlace}
 use Rattle.records.proofs.Bounds.{product-of-bytes, place-bound}
@@ -41,7 +42,7 @@ sub-result-2 c = search needs
 
 returns : tie.Need-returns
 unfolding pairPlace
-returns c = (cc, place-bound (c .before .before .wide .ensures .1) (c .before .wide2 .ensures .1) (c .wide3 .ensures .1))
+returns c = (rw (c .before .before .wide .ensures .0, c .before .wide2 .ensures .0, c .wide3 .ensures .0) (refl), place-bound (c .before .before .wide .ensures .1) (c .before .wide2 .ensures .1) (c .wide3 .ensures .1))
 
 mul-result-3 : tie.Need-mul-result-3
 mul-result-3 c = omega (arith, returns c .1)

@@ -1,4 +1,5 @@
 -- `replicable` is `replicableOf`: where the test fails, so does the conjunction.
+use mathlib.Core.Path.{refl}
 use Rattle.records.specs.Costs.{replicableOf}
 use borrow.Author.Needs.{needs}
 use Rattle.records.proofs.lookup.replicable.Statement.{statement}
@@ -15,7 +16,7 @@ byte-at-requires c κs = search needs
 
 returns : tie.Need-returns
 unfolding replicableOf
-returns c = simp (← (c .before .before .before .is-within .ensures), c .before .before .if1 .taken) (cc)
+returns c = simp (← (c .before .before .before .is-within .ensures), c .before .before .if1 .taken) (rw (← (c .before .wide .ensures .0), c .byte-at .ensures .0) (refl))
 
 returns-2 : tie.Need-returns-2
 unfolding replicableOf

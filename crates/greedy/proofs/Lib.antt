@@ -1,0 +1,11 @@
+pub mod Answering
+pub mod Bytes
+pub mod Choosing
+pub mod Earliest
+pub mod Filling
+pub mod Giving
+pub mod Keeping
+pub mod Laws
+pub mod Starting
+pub mod Visiting
+pub mod Walking

@@ -1,0 +1,2 @@
+pub mod Dock
+pub mod Cases
