@@ -1,14 +1,14 @@
 -- One turn of each search: what is found now, or what is left gives the same as the whole. A turn has the module that it
 -- read and the test's result. Assumes nothing.
-use mathlib.Core.Path.{_≡_, sym, _∙_}
+use mathlib.Core.Path.{_≡_, refl, sym, _∙_}
 use mathlib.Core.Bool.{Bool, true, false, not}
 use mathlib.Core.List.{List}
 use Prim.Native.Nat.{ℕ, _+_, _-_, _≤_, _<_}
-use borrow.Author.Tests.{eq-eqb, ne-eqb, not-true, not-false}
+use borrow.Author.Tests.{lt-ltb, eq-eqb, ne-eqb, not-true, not-false}
 use Rattle.figures.specs.declared.Module.{Module}
 use Rattle.figures.specs.Model.{Chain}
 use Rattle.figures.specs.Rules.{memoryFits, fewestFrom}
-use Rattle.figures.specs.Plan.{moduleAt, countFrom, modulesFrom}
+use Rattle.figures.specs.Plan.{mostModules, moduleAt, recordOf, countFrom, modulesFrom}
 use Rattle.figures.specs.Judge.{isBlank, isModule, blankFault, shapeFault, firstFailing}
 use Rattle.figures.proofs.Left.{left-some, left-none}
 
@@ -29,6 +29,11 @@ module _ (c : Chain) (first last p top : ℕ) where
   fewest-end h = rw (left-none h)
 
 -- ---- the records of plan bytes
+
+-- one of the twelve
+pub record-here : (w : List ℕ) (i : ℕ) → i < mostModules → recordOf w i ≡ moduleAt w i
+unfolding recordOf
+record-here w i h = rw (lt-ltb i mostModules h) (refl)
 
 module _ (w : List ℕ) (i n : ℕ) where
   pub count-end : (k : ℕ) → n ≤ i → countFrom w k i (n - i) ≡ i

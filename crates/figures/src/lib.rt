@@ -1,27 +1,27 @@
 // The figures of a plan (document 01, "The chain and the board", "Plan bytes"; source document 000, 2.1 and 2.2): what a
-// module costs, which rules it keeps, what plan bytes say, and the service Judge.
+// module costs, which rules it keeps, and what plan bytes say.
 //
 // Whatever lies above takes every cost, test and figure from here. No public function has a `requires`: each answers for
 // all bytes, boards and numbers. A task, a count of copies and a count of cores are one byte each, as in plan bytes.
 mod cost;
 mod plan;
 mod rules;
-mod verdict;
 
 pub use cost::body;
 pub use cost::response_of;
 pub use cost::transfer;
+pub use plan::cores_used;
 pub use plan::figures;
 pub use plan::module_at;
 pub use plan::module_count;
 pub use plan::put_module;
 pub use plan::put_plan;
+pub use plan::refuse;
 pub use plan::response;
+pub use rules::copies_allowed;
 pub use rules::fewest_cores;
 pub use rules::memory_fits;
 pub use rules::rules_met;
-pub use verdict::judge;
-pub use verdict::refuse;
 
 // A module of a plan: an unbroken run of tasks, first to last, in r copies of p cores each.
 pub struct Module {

@@ -7,6 +7,7 @@ ghost use lib.Dec.{ltb};
 ghost use lib.ListN.{getD};
 ghost use Rattle.figures.specs.Model.{chainOf, coresOf, slowerOf, bottleneck};
 ghost use Rattle.figures.specs.Plan.{mostModules, moduleAt, recordOf, coresBefore, moduleCount, modulesFrom, modulesOf, slownessAt, putModule, putPlan, figuresOf, responseAt};
+ghost use Rattle.figures.specs.Judge.{refusal};
 use crate::Answer;
 use crate::Module;
 use crate::Slowest;
@@ -14,9 +15,9 @@ use crate::cost::response_of;
 use records::Board;
 
 // The most modules of a plan, and the bytes that they take.
-pub(crate) const MOST_MODULES: u32 = 12;
+const MOST_MODULES: u32 = 12;
 
-pub(crate) const PLAN_BYTES: usize = 48;
+const PLAN_BYTES: usize = 48;
 
 fn byte_at(plan: &[u8], i: usize) -> u8
     ensures { λ r. ⌜ r ≡ getD (now (plan .entry)) i 0 ⌝ }
@@ -25,7 +26,7 @@ fn byte_at(plan: &[u8], i: usize) -> u8
 }
 
 // Record i, of any index.
-pub(crate) fn record_at(plan: &[u8], i: u32) -> Module
+fn record_at(plan: &[u8], i: u32) -> Module
     ensures { λ r. ⌜ r ≡ moduleAt (now (plan .entry)) i ⌝ }
 {
     let at = 4 * (i as usize);
@@ -167,7 +168,7 @@ fn slowest_of(costs: &[u8], board: Board, plan: &[u8], count: u32) -> Slowest
 }
 
 // The cores of the first count records.
-pub(crate) fn cores_of(plan: &[u8], count: u32) -> u32
+fn cores_of(plan: &[u8], count: u32) -> u32
     requires { ⌜ count ≤ mostModules ⌝ }
     ensures { λ r. ⌜ r ≡ coresOf (modulesFrom (now (plan .entry)) 0 count) ⌝ }
 {
@@ -179,6 +180,14 @@ pub(crate) fn cores_of(plan: &[u8], count: u32) -> u32
         i += 1;
     }
     sum
+}
+
+// The cores of plan bytes.
+pub fn cores_used(plan: &[u8], k: u8) -> u32
+    ensures { λ r. ⌜ r ≡ coresOf (modulesOf (now (plan .entry)) k) ⌝ }
+{
+    let count = module_count(plan, k);
+    cores_of(plan, count)
 }
 
 // The figures of plan bytes: document 01's count of modules, cores and bottleneck.
@@ -208,4 +217,19 @@ pub fn response(costs: &[u8], board: Board, plan: &[u8], i: u32) -> u64
         return x.response;
     }
     0
+}
+
+// A refusal by its number and place, with zero figures.
+pub fn refuse(number: u32, place: u32) -> Answer
+    ensures { λ r. ⌜ r ≡ refusal number place ⌝ }
+{
+    Answer {
+        number,
+        place,
+        modules: 0,
+        cores: 0,
+        slowest: 0,
+        copies: 0,
+        response: 0,
+    }
 }

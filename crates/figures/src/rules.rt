@@ -15,7 +15,7 @@ pub fn memory_fits(costs: &[u8], board: Board, first: u8, last: u8, p: u8) -> bo
 }
 
 // Whether the module may have r copies.
-pub(crate) fn copies_allowed(costs: &[u8], board: Board, first: u8, last: u8, r: u8) -> bool
+pub fn copies_allowed(costs: &[u8], board: Board, first: u8, last: u8, r: u8) -> bool
     ensures { λ x. ⌜ x ≡ copiesAllowed (chainOf (now (costs .entry)) board) first last r ⌝ }
 {
     if r <= 1 {

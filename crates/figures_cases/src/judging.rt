@@ -7,7 +7,7 @@ use crate::printing::then_four;
 use records::Board;
 
 pub(crate) fn show(costs: &[u8], plan: &[u8]) {
-    show_answer(figures::judge(costs, plan));
+    show_answer(judge::judge(costs, plan));
 }
 
 pub(crate) fn figures_of(costs: &[u8], board: Board, plan: &[u8]) {

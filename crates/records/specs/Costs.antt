@@ -24,9 +24,12 @@ mostValue = 1000000
 abbrev pub byteAt : List ℕ → ℕ → ℕ → ℕ
 byteAt s n j = getD s (8 * n + j) 0
 
--- the value of record n, lowest byte first
+-- the value of the record that starts at byte i, lowest byte first, and of record n
+abbrev pub valueFrom : List ℕ → ℕ → ℕ
+valueFrom s i = getD s (i + 4) 0 + 256 * getD s (i + 5) 0 + 65536 * getD s (i + 6) 0 + 16777216 * getD s (i + 7) 0
+
 unfoldable pub valueAt : List ℕ → ℕ → ℕ
-valueAt s n = byteAt s n 4 + 256 * byteAt s n 5 + 65536 * byteAt s n 6 + 16777216 * byteAt s n 7
+valueAt s n = valueFrom s (8 * n)
 
 -- ---- the due keys
 

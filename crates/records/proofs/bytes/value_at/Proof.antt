@@ -1,61 +1,28 @@
-use mathlib.Core.Path.{refl}
-use Rattle.records.specs.Costs.{valueAt}
+-- `value_at` is `valueAt`, whichever way the bytes are read.
 use borrow.Author.Needs.{needs}
+use Rattle.records.specs.Costs.{valueAt}
 use Rattle.records.proofs.bytes.value_at.Statement.{statement}
 use Rattle.records.proofs.bytes.value_at.Tie as tie
 
-byte-at-requires : tie.Need-byte-at-requires
-byte-at-requires c κs = search needs
+mul-start : tie.Need-mul-start
+mul-start c = search needs
 
-byte-at-requires-2 : tie.Need-byte-at-requires-2
-byte-at-requires-2 c κs = search needs
+add-if1 : tie.Need-add-if1
+add-if1 c = search needs
 
-byte-at-requires-3 : tie.Need-byte-at-requires-3
-byte-at-requires-3 c κs = search needs
-
-byte-at-requires-4 : tie.Need-byte-at-requires-4
-byte-at-requires-4 c κs = search needs
-
-mul-result : tie.Need-mul-result
-mul-result c = search needs
-
-add-result : tie.Need-add-result
-add-result c = search needs
-
-mul-result-2 : tie.Need-mul-result-2
-mul-result-2 c = search needs
-
-add-result-2 : tie.Need-add-result-2
-add-result-2 c = search needs
-
-mul-result-3 : tie.Need-mul-result-3
-mul-result-3 c = search needs
-
-add-result-3 : tie.Need-add-result-3
-add-result-3 c = search needs
+value-inside-requires : tie.Need-value-inside-requires
+value-inside-requires c κs = search needs
 
 returns : tie.Need-returns
 unfolding valueAt
-returns c =
-    rw (
-      c .before .before .before .byte-at .ensures .0,
-      c .before .before .byte-at2 .ensures .0,
-      c .before .byte-at3 .ensures .0,
-      c .byte-at4 .ensures .0,
-    ) (refl)
+returns c = c .value-inside .ensures
+
+value-cut-requires : tie.Need-value-cut-requires
+value-cut-requires c κs = search needs
+
+returns-2 : tie.Need-returns-2
+returns-2 c = c .value-cut .ensures
 
 pub value-at-spec : {M : Type 1} → statement M
 value-at-spec =
-    tie.close
-    (tie.spec
-    byte-at-requires
-    byte-at-requires-2
-    byte-at-requires-3
-    byte-at-requires-4
-    mul-result
-    add-result
-    mul-result-2
-    add-result-2
-    mul-result-3
-    add-result-3
-    returns)
+    tie.close (tie.spec mul-start add-if1 value-inside-requires returns value-cut-requires returns-2)

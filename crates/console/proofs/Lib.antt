@@ -1,0 +1,4 @@
+pub mod Counted
+pub mod Digits
+pub mod Examples
+pub mod Reported

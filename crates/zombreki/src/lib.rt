@@ -1,0 +1,66 @@
+// The three services for C and Rust callers: Judge, Bench way and Best plan (document 01, "Three services"), under plain names.
+//
+// A slice crosses as a pointer and a count of elements. No function has a `requires`: each answers for every content and length.
+// include/zombreki.h declares them for C, and says what no proof covers.
+ghost use mathlib.Core.Path.{_≡_};
+ghost use Prim.Native.Nat.{_<_};
+ghost use Rattle.figures.specs.Judge.{judged};
+ghost use Rattle.greedy.specs.Greedy.{greedyAnswer, greedyBytes};
+ghost use Rattle.planners.specs.Best.{bestAnswer, bestBytes, bestWork};
+ghost use Rattle.zombreki.specs.Exported.{inWords, words};
+
+// A refusal's number (0 for none) and place, or the plan's count of modules, its cores, and of its bottleneck the number of the
+// module, counted from 1, its response and its copies. A refusal has zero figures.
+#[repr(C)]
+pub struct Answer {
+    pub refusal: u32,
+    pub place: u32,
+    pub modules: u32,
+    pub cores: u32,
+    pub slowest: u32,
+    pub response: u32,
+    pub copies: u32,
+}
+
+// A service's answer in 32-bit numbers.
+fn in_words(a: figures::Answer) -> Answer
+    requires { ⌜ a .response < words ⌝ }
+    ensures { λ r. ⌜ r ≡ inWords a ⌝ }
+{
+    Answer {
+        refusal: a.number,
+        place: a.place,
+        modules: a.modules,
+        cores: a.cores,
+        slowest: a.slowest,
+        response: a.response as u32,
+        copies: a.copies,
+    }
+}
+
+// Judges plan bytes.
+#[no_mangle]
+pub extern "C" fn zombreki_judge(costs: &[u8], plan: &[u8]) -> Answer
+    ensures { λ r. ⌜ r ≡ inWords (judged (now (costs .entry)) (now (plan .entry))) ⌝ }
+{
+    in_words(judge::judge(costs, plan))
+}
+
+// Fills in the greedy plan of a grouping.
+#[no_mangle]
+pub extern "C" fn zombreki_greedy_plan(costs: &[u8], grouping: u16, plan: &mut [u8]) -> Answer
+    ensures { λ r. ⌜ (r ≡ inWords (greedyAnswer (now (costs .entry)) grouping (now (plan .entry))))
+        × (now (plan .exit) ≡ greedyBytes (now (costs .entry)) grouping (now (plan .entry))) ⌝ }
+{
+    in_words(greedy::greedy_plan(costs, grouping, plan))
+}
+
+// Fills in the best plan.
+#[no_mangle]
+pub extern "C" fn zombreki_best_plan(costs: &[u8], plan: &mut [u8], work: &mut [u32]) -> Answer
+    ensures { λ r. ⌜ (r ≡ inWords (bestAnswer (now (costs .entry)) (now (plan .entry)) (now (work .entry))))
+        × (now (plan .exit) ≡ bestBytes (now (costs .entry)) (now (plan .entry)) (now (work .entry)))
+        × (now (work .exit) ≡ bestWork (now (costs .entry)) (now (plan .entry)) (now (work .entry))) ⌝ }
+{
+    in_words(planners::best_plan(costs, plan, work))
+}

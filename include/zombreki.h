@@ -1,0 +1,54 @@
+/* Core plans that are proved to be the best: the three services for C callers. Link with libzombreki.a.
+ *
+ * Every answer, and what becomes of the lent bytes and words, is proved for every content and every length of what is lent
+ * (crates/zombreki). No proof covers a caller that breaks one of these:
+ *  - pointer and count belong together: that many elements can be read there and, where the pointer is not to const,
+ *    written;
+ *  - what is lent to one call does not overlap, and nobody else writes to it, or reads what the call writes, meanwhile;
+ *  - `work` is aligned as uint32_t is;
+ *  - an empty slice has count 0; its pointer is not looked at and may be any.
+ */
+#ifndef ZOMBREKI_H
+#define ZOMBREKI_H
+
+#include <stddef.h>
+#include <stdint.h>
+
+#ifdef __cplusplus
+extern "C" {
+#endif
+
+/* The bytes of a plan, and the words that the search for the best plan takes at least. */
+#define ZOMBREKI_PLAN_BYTES 48
+#define ZOMBREKI_WORK_WORDS 16384
+
+/* The number of a refusal (0 for none) and its place, or the figures of a plan. A refusal has zero figures. */
+struct zombreki_answer {
+    uint32_t refusal;  /* 0, or the number of the refusal */
+    uint32_t place;    /* the record or module at fault, counted from 1; 0 where none is named */
+    uint32_t modules;  /* how many modules the plan has */
+    uint32_t cores;    /* the cores that it uses */
+    uint32_t slowest;  /* the first module that reaches the bottleneck, counted from 1 */
+    uint32_t response; /* its response in ticks */
+    uint32_t copies;   /* its copies: the bottleneck is response / copies */
+};
+
+/* Judges plan bytes: the figures of the plan, or a refusal. */
+struct zombreki_answer zombreki_judge(const uint8_t *costs, size_t costs_len, const uint8_t *plan, size_t plan_len);
+
+/* Fills in the plan of the greedy procedure. Bit i of the grouping, counted from 0, ends a module after task i + 1. A
+ * refusal leaves the plan bytes as they came; bytes after the 48th are never written. */
+struct zombreki_answer zombreki_greedy_plan(const uint8_t *costs, size_t costs_len, uint16_t grouping, uint8_t *plan,
+                                            size_t plan_len);
+
+/* Fills in the best plan: least bottleneck, then fewest cores, then module order. A refusal leaves the plan bytes as they
+ * came; bytes after the 48th are never written. Afterwards the whole work area is zero, or untouched where the refusal
+ * came before the search (any but 9). */
+struct zombreki_answer zombreki_best_plan(const uint8_t *costs, size_t costs_len, uint8_t *plan, size_t plan_len,
+                                          uint32_t *work, size_t work_len);
+
+#ifdef __cplusplus
+}
+#endif
+
+#endif

@@ -1,0 +1,120 @@
+//! The times of a chain: executions and transfers.
+
+use super::Kind;
+use crate::costs::{Chain, MOST_VALUE};
+use crate::plan::Module;
+use crate::random::Random;
+
+/// Each time drawn by itself, up to one scale.
+pub fn set_drawn(chain: &mut Chain, kind: Kind, random: &mut Random) {
+    let scale = random.pick(match kind {
+        Kind::Zeros => &[0, 1, 100, MOST_VALUE],
+        _ => &[3, 20, 1_000, MOST_VALUE],
+    });
+    let cores = chain.cores;
+    for times in all_times(chain) {
+        for (i, time) in times.iter_mut().enumerate() {
+            *time = drawn(kind, scale, i % cores + 1, random);
+        }
+    }
+}
+
+fn all_times(chain: &mut Chain) -> [&mut Vec<u32>; 3] {
+    let (executions, internals) = (&mut chain.executions, &mut chain.internals);
+    [executions, internals, &mut chain.externals]
+}
+
+fn drawn(kind: Kind, scale: u32, cores: usize, random: &mut Random) -> u32 {
+    match kind {
+        Kind::Ties => scale / 3 * random.value(2),
+        Kind::Zeros if random.below(6) > 0 => 0,
+        // more cores help, but two counts in three are worse than their neighbours
+        Kind::NotMonotone => {
+            let fair = scale / cores as u32;
+            random.pick(&[fair, scale, fair + (scale - fair) / 2])
+        }
+        _ => random.value(scale),
+    }
+}
+
+/// Source document 000, 5: fixed + parallel ÷ p + overhead · p for a task, and likewise with the cores of both sides for an
+/// external transfer, which costs a tenth of a task.
+pub fn set_realistic(chain: &mut Chain, random: &mut Random) {
+    let work = random.pick(&[100, 10_000, 400_000]);
+    let cores = chain.cores as u32;
+    for times in chain.executions.chunks_exact_mut(chain.cores) {
+        let law = law(work, random);
+        (1..=cores).for_each(|p| times[p as usize - 1] = law(p));
+    }
+    for times in chain.internals.chunks_exact_mut(chain.cores) {
+        let law = law(work / 20, random);
+        (1..=cores).for_each(|p| times[p as usize - 1] = law(p));
+    }
+    for times in chain.externals.chunks_exact_mut(chain.cores * chain.cores) {
+        let (sender, receiver) = (law(work / 20, random), law(work / 20, random));
+        for s in 1..=cores {
+            for q in 1..=cores {
+                times[((s - 1) * cores + q - 1) as usize] = sender(s) + receiver(q);
+            }
+        }
+    }
+}
+
+fn law(work: u32, random: &mut Random) -> impl Fn(u32) -> u32 + use<> {
+    let fixed = random.value(work / 50);
+    let parallel = work / 4 + random.value(work * 3 / 4);
+    let overhead = random.value(work / 200 + 1);
+    move |p| fixed + parallel / p + overhead * p
+}
+
+/// All times are the greatest but for those that one plan, within the board's cores, has.
+pub fn set_hidden(chain: &mut Chain, random: &mut Random) {
+    for times in all_times(chain) {
+        times.fill(MOST_VALUE);
+    }
+    let plan = some_plan(chain, random);
+    let scale = random.pick(&[2, 60, 5_000]);
+    let cores = chain.cores;
+    for (i, module) in plan.iter().enumerate() {
+        // with more copies a module may take longer
+        let most = scale * module.copies as u32;
+        let column = module.cores - 1;
+        for task in module.first - 1..module.last {
+            chain.executions[task * cores + column] = random.value(most);
+        }
+        for task in module.first - 1..module.last - 1 {
+            chain.internals[task * cores + column] = random.value(most);
+        }
+        if let Some(next) = plan.get(i + 1) {
+            let row = (module.last - 1) * cores + column;
+            chain.externals[row * cores + next.cores - 1] = random.value(most);
+        }
+    }
+}
+
+/// Modules of random lengths, copies and cores that the board has room for.
+fn some_plan(chain: &Chain, random: &mut Random) -> Vec<Module> {
+    let mut plan: Vec<Module> = Vec::new();
+    let mut left = chain.cores;
+    let mut covered = 0;
+    while covered < chain.tasks {
+        // the last core is for all tasks that are left
+        let last = if left < 2 {
+            chain.tasks
+        } else {
+            random.within(covered + 1, chain.tasks)
+        };
+        let most = if last == chain.tasks { left } else { left / 2 };
+        let cores = random.within(1, most.min(4));
+        let copies = random.within(1, (most / cores).min(3));
+        plan.push(Module {
+            first: covered + 1,
+            last,
+            copies,
+            cores,
+        });
+        left -= copies * cores;
+        covered = last;
+    }
+    plan
+}

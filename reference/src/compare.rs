@@ -1,0 +1,146 @@
+//! Calls two providers of the services with the same bytes and tells what differs: the answer, or anything lent.
+
+use std::env;
+use std::fmt::Debug;
+use std::fs;
+use std::thread;
+
+use crate::answer::Answer;
+use crate::every::WORK_WORDS;
+use crate::plan::PLAN_BYTES;
+use crate::random::Random;
+use crate::services::Services;
+
+/// In which service the two differ, and how.
+#[derive(Debug)]
+pub struct Difference {
+    pub service: &'static str,
+    pub what: String,
+}
+
+/// How much is lent for output, and the seed of what it holds before. It is lent as the middle of something longer, so that
+/// a byte or word written beside it shows.
+#[derive(Clone, Copy)]
+pub struct Lent {
+    pub plan: usize,
+    pub work: usize,
+    pub seed: u64,
+}
+
+const MARGIN: usize = 16;
+const PLAN_NAME: &str = "plan bytes (those lent begin at 16)";
+const WORK_NAME: &str = "work area (the lent words begin at 16)";
+
+impl Lent {
+    /// As much as is needed.
+    pub fn enough(seed: u64) -> Lent {
+        Lent {
+            plan: PLAN_BYTES,
+            work: WORK_WORDS,
+            seed,
+        }
+    }
+
+    fn dirty_plan(&self) -> Vec<u8> {
+        let mut random = Random::new(self.seed);
+        let length = self.plan + 2 * MARGIN;
+        (0..length).map(|_| random.byte()).collect()
+    }
+
+    fn dirty_work(&self) -> Vec<u32> {
+        let mut random = Random::new(self.seed);
+        let length = self.work + 2 * MARGIN;
+        (0..length).map(|_| random.word() as u32).collect()
+    }
+
+    fn plan_in<'a>(&self, bytes: &'a mut [u8]) -> &'a mut [u8] {
+        &mut bytes[MARGIN..MARGIN + self.plan]
+    }
+
+    fn work_in<'a>(&self, words: &'a mut [u32]) -> &'a mut [u32] {
+        &mut words[MARGIN..MARGIN + self.work]
+    }
+}
+
+/// The first place where the two differ, with what `name` says of it.
+fn expect_same<T: PartialEq + Debug>(
+    service: &'static str,
+    expected: &[T],
+    found: &[T],
+    name: impl Fn() -> String,
+) -> Result<(), Difference> {
+    let Some(i) = (0..expected.len()).find(|&i| expected[i] != found[i]) else {
+        return Ok(());
+    };
+    let (expected, found) = (&expected[i], &found[i]);
+    let what = format!("{}, at {i}: expected {expected:?}, found {found:?}", name());
+    Err(Difference { service, what })
+}
+
+/// Judge, with whatever plan bytes; the answer of both.
+pub fn judge(
+    expected: &Services,
+    found: &Services,
+    costs: &[u8],
+    plan: &[u8],
+) -> Result<Answer, Difference> {
+    let answer = (expected.judge)(costs, plan);
+    let found_answer = (found.judge)(costs, plan);
+    let name = || format!("answer on the plan {plan:?}");
+    expect_same("judge", &[answer], &[found_answer], name)?;
+    Ok(answer)
+}
+
+/// The greedy plan; the answer and the plan bytes of both.
+pub fn greedy_plan(
+    expected: &Services,
+    found: &Services,
+    costs: &[u8],
+    grouping: u16,
+    lent: Lent,
+) -> Result<(Answer, Vec<u8>), Difference> {
+    let mut plan = lent.dirty_plan();
+    let mut found_plan = plan.clone();
+    let answer = (expected.greedy_plan)(costs, grouping, lent.plan_in(&mut plan));
+    let found_answer = (found.greedy_plan)(costs, grouping, lent.plan_in(&mut found_plan));
+    let name = |what: &str| format!("{what} with grouping {grouping}");
+    expect_same("greedy plan", &[answer], &[found_answer], || name("answer"))?;
+    expect_same("greedy plan", &plan, &found_plan, || name(PLAN_NAME))?;
+    Ok((answer, lent.plan_in(&mut plan).to_vec()))
+}
+
+/// The best plan; the answer and the plan bytes of both.
+pub fn best_plan(
+    expected: &Services,
+    found: &Services,
+    costs: &[u8],
+    lent: Lent,
+) -> Result<(Answer, Vec<u8>), Difference> {
+    let (mut plan, mut work) = (lent.dirty_plan(), lent.dirty_work());
+    let (mut found_plan, mut found_work) = (plan.clone(), work.clone());
+    let answer = (expected.best_plan)(costs, lent.plan_in(&mut plan), lent.work_in(&mut work));
+    let found_answer = (found.best_plan)(
+        costs,
+        lent.plan_in(&mut found_plan),
+        lent.work_in(&mut found_work),
+    );
+    let name = |what: &str| what.to_string();
+    expect_same("best plan", &[answer], &[found_answer], || name("answer"))?;
+    expect_same("best plan", &plan, &found_plan, || name(PLAN_NAME))?;
+    expect_same("best plan", &work, &found_work, || name(WORK_NAME))?;
+    Ok((answer, lent.plan_in(&mut plan).to_vec()))
+}
+
+/// Keeps the file and fails with the seed, the file's path and the difference.
+pub fn fail(seed: u64, costs: &[u8], difference: &Difference) -> ! {
+    let test = thread::current().name().unwrap_or("test").to_string();
+    let path = env::temp_dir().join(format!("reference-{test}-{seed}.costs"));
+    let kept = match fs::write(&path, costs) {
+        Ok(()) => path.display().to_string(),
+        Err(error) => format!("nowhere ({error})"),
+    };
+    panic!(
+        "seed {seed}, costs kept in {kept}: {}: {}",
+        difference.service, difference.what
+    );
+}

@@ -1,0 +1,94 @@
+//! Document 01's Best plan by trying all plans, with refusals 1 to 6, 7, 8, 9.
+
+use crate::answer::{Answer, Refusal, answer};
+use crate::costs::{self, Chain};
+use crate::plan::{self, Load, Module, PLAN_BYTES};
+
+pub const WORK_WORDS: usize = 16_384;
+
+/// Fills in the plan of least bottleneck, then fewest cores, then first in module order. The lent words are all zero after a
+/// plan and after refusal 9, and untouched after any other refusal.
+pub fn best_plan(costs: &[u8], plan: &mut [u8], work: &mut [u32]) -> Answer {
+    best_plan_by(search, costs, plan, work)
+}
+
+/// The service with any search; one that finds nothing is refusal 9.
+pub fn best_plan_by(
+    search: fn(&Chain) -> Option<Vec<Module>>,
+    costs: &[u8],
+    plan: &mut [u8],
+    work: &mut [u32],
+) -> Answer {
+    let chain = match start(costs, plan, work) {
+        Ok(chain) => chain,
+        Err(refusal) => return refusal.into(),
+    };
+    work.fill(0);
+    let best = search(&chain).ok_or(Refusal::new(9));
+    answer(best.map(|best| {
+        plan[..PLAN_BYTES].copy_from_slice(&plan::encode(&best));
+        plan::figures(&chain, &best)
+    }))
+}
+
+fn start(costs: &[u8], plan: &[u8], work: &[u32]) -> Result<Chain, Refusal> {
+    let chain = costs::read(costs)?;
+    plan::enough_bytes(plan)?;
+    if work.len() < WORK_WORDS {
+        return Err(Refusal::new(8));
+    }
+    Ok(chain)
+}
+
+/// The first plan in module order of those of fewest cores of those of least bottleneck that keep the rules.
+pub fn search(chain: &Chain) -> Option<Vec<Module>> {
+    search_by(chain, plan::bottleneck)
+}
+
+/// The search with any way to compute a plan's bottleneck.
+pub fn search_by(chain: &Chain, bottleneck: fn(&Chain, &[Module]) -> Load) -> Option<Vec<Module>> {
+    let mut best: Option<(Load, usize, Vec<Module>)> = None;
+    each_plan(chain, &mut |rival| {
+        if !plan::keeps_rules(chain, rival) {
+            return;
+        }
+        let (load, cores) = (bottleneck(chain, rival), plan::cores(rival));
+        let comes_before = match &best {
+            None => true,
+            Some((least, fewest, _)) => {
+                load.is_less(*least) || (!least.is_less(load) && cores < *fewest)
+            }
+        };
+        if comes_before {
+            best = Some((load, cores, rival.to_vec()));
+        }
+    });
+    best.map(|(_, _, plan)| plan)
+}
+
+/// Visits all plans that need no more than the board's cores, in module order.
+pub fn each_plan(chain: &Chain, visit: &mut dyn FnMut(&[Module])) {
+    continue_plan(chain, &mut Vec::new(), visit);
+}
+
+fn continue_plan(chain: &Chain, plan: &mut Vec<Module>, visit: &mut dyn FnMut(&[Module])) {
+    let covered = plan.last().map_or(0, |module| module.last);
+    if covered == chain.tasks {
+        return visit(plan);
+    }
+    let left = chain.cores - plan::cores(plan);
+    for last in covered + 1..=chain.tasks {
+        for copies in 1..=left {
+            for cores in 1..=left / copies {
+                plan.push(Module {
+                    first: covered + 1,
+                    last,
+                    copies,
+                    cores,
+                });
+                continue_plan(chain, plan, visit);
+                plan.pop();
+            }
+        }
+    }
+}

@@ -1,0 +1,63 @@
+//! Document 01's Judge: the figures of given plan bytes, or refusals 1 to 6, 7, 12, 13, 14, 15.
+
+use crate::answer::{Answer, Refusal, answer};
+use crate::costs::{self, Chain};
+use crate::plan::{self, Module, PLAN_BYTES};
+
+/// The figures of the plan in the first 48 bytes.
+pub fn judge(costs: &[u8], plan: &[u8]) -> Answer {
+    answer(figures_or_refusal(costs, plan))
+}
+
+fn figures_or_refusal(costs: &[u8], plan: &[u8]) -> Result<Answer, Refusal> {
+    let chain = costs::read(costs)?;
+    let Some(bytes) = plan.first_chunk::<PLAN_BYTES>() else {
+        return Err(Refusal::new(7));
+    };
+    let modules = covering_modules(&chain, bytes)?;
+    let only_allowed_copies = |module: &Module| module.copies == 1 || module.replicable(&chain);
+    test_all(&modules, 13, only_allowed_copies)?;
+    test_all(&modules, 14, |module| module.memory_fits(&chain))?;
+    if plan::cores(&modules) > chain.cores {
+        return Err(Refusal::new(15));
+    }
+    Ok(plan::figures(&chain, &modules))
+}
+
+/// The modules up to the one that ends at task k, or refusal 12 at the first record at fault.
+fn covering_modules(chain: &Chain, plan: &[u8; PLAN_BYTES]) -> Result<Vec<Module>, Refusal> {
+    let blank = plan::records(&[0; PLAN_BYTES])[0];
+    let mut modules = Vec::new();
+    let mut covered = 0;
+    for (i, record) in plan::records(plan).into_iter().enumerate() {
+        let at_fault = Refusal::at(12, i + 1);
+        if covered == chain.tasks {
+            if record != blank {
+                return Err(at_fault);
+            }
+            continue;
+        }
+        let tasks_due =
+            record.first == covered + 1 && (record.first..=chain.tasks).contains(&record.last);
+        if !tasks_due || record.copies == 0 || record.cores == 0 {
+            return Err(at_fault);
+        }
+        covered = record.last;
+        modules.push(record);
+    }
+    // twelve records that start at the due tasks cover the at most twelve tasks
+    assert_eq!(covered, chain.tasks);
+    Ok(modules)
+}
+
+/// The refusal with the first module that fails the test as its place.
+fn test_all(
+    modules: &[Module],
+    number: u32,
+    passes: impl Fn(&Module) -> bool,
+) -> Result<(), Refusal> {
+    match modules.iter().position(|module| !passes(module)) {
+        None => Ok(()),
+        Some(i) => Err(Refusal::at(number, i + 1)),
+    }
+}

@@ -1,0 +1,22 @@
+//! A second planner of core plans, written from document 01 (the scope), to hold the static library against.
+//!
+//! `costs`, `plan`, `judge`, `greedy` and `every` say what the services answer, in the most obvious way; `every` tries all
+//! plans. `threshold` is the library's own algorithm in Rust and `paper` the dynamic program of source document 000.
+//! `cases` and `damage` make files from seeds; `compare` and `round` tell two providers of the services apart.
+
+pub mod answer;
+pub mod cases;
+pub mod compare;
+pub mod costs;
+pub mod damage;
+pub mod every;
+pub mod greedy;
+pub mod judge;
+pub mod library;
+pub mod paper;
+pub mod plan;
+pub mod random;
+pub mod round;
+pub mod services;
+pub mod tally;
+pub mod threshold;

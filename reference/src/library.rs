@@ -1,0 +1,97 @@
+//! The static library's services (document 01's three), called over slices.
+
+use crate::answer::Answer;
+
+// A slice is a pointer and a count of elements. The library reads and writes what is lent and nothing else, and keeps no
+// pointer; lent slices do not overlap.
+unsafe extern "C" {
+    fn zombreki_judge(
+        costs: *const u8,
+        costs_len: usize,
+        plan: *const u8,
+        plan_len: usize,
+    ) -> Answer;
+    fn zombreki_greedy_plan(
+        costs: *const u8,
+        costs_len: usize,
+        grouping: u16,
+        plan: *mut u8,
+        plan_len: usize,
+    ) -> Answer;
+    fn zombreki_best_plan(
+        costs: *const u8,
+        costs_len: usize,
+        plan: *mut u8,
+        plan_len: usize,
+        work: *mut u32,
+        work_len: usize,
+    ) -> Answer;
+}
+
+pub fn judge(costs: &[u8], plan: &[u8]) -> Answer {
+    // SAFETY: pointers and lengths are those of live slices, which may be read.
+    unsafe { zombreki_judge(costs.as_ptr(), costs.len(), plan.as_ptr(), plan.len()) }
+}
+
+pub fn greedy_plan(costs: &[u8], grouping: u16, plan: &mut [u8]) -> Answer {
+    // SAFETY: pointers and lengths are those of live slices; the plan is lent for writing and does not overlap the costs.
+    unsafe {
+        zombreki_greedy_plan(
+            costs.as_ptr(),
+            costs.len(),
+            grouping,
+            plan.as_mut_ptr(),
+            plan.len(),
+        )
+    }
+}
+
+pub fn best_plan(costs: &[u8], plan: &mut [u8], work: &mut [u32]) -> Answer {
+    // SAFETY: pointers and lengths are those of live slices; plan and work are lent for writing, and none overlap.
+    unsafe {
+        zombreki_best_plan(
+            costs.as_ptr(),
+            costs.len(),
+            plan.as_mut_ptr(),
+            plan.len(),
+            work.as_mut_ptr(),
+            work.len(),
+        )
+    }
+}
+
+#[cfg(test)]
+mod tests {
+    use super::*;
+    use std::ptr::{null, null_mut};
+
+    /// The pointer of an empty slice is not looked at.
+    #[test]
+    fn empty_slices_may_have_any_pointer() {
+        // SAFETY: nothing can be read or written through pointers with a count of 0.
+        let answers = unsafe {
+            [
+                zombreki_judge(null(), 0, null(), 0),
+                zombreki_greedy_plan(null(), 0, 0, null_mut(), 0),
+                zombreki_best_plan(null(), 0, null_mut(), 0, null_mut(), 0),
+            ]
+        };
+        for answer in answers {
+            assert_eq!((answer.refusal, answer.place), (1, 0));
+        }
+    }
+
+    #[test]
+    fn accepted_costs_with_empty_slices() {
+        let costs = [
+            [1, 0, 1, 1, 1, 0, 0, 0],
+            [2, 1, 1, 0, 0, 0, 0, 0],
+            [3, 1, 1, 0, 5, 0, 0, 0],
+        ];
+        let costs = costs.as_flattened();
+        assert_eq!(judge(costs, &[]).refusal, 7);
+        assert_eq!(greedy_plan(costs, 0, &mut []).refusal, 7);
+        assert_eq!(best_plan(costs, &mut [], &mut []).refusal, 7);
+        assert_eq!(best_plan(costs, &mut [0; 48], &mut []).refusal, 8);
+    }
+}

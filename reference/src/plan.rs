@@ -1,0 +1,158 @@
+//! Document 01, "The chain and the board" and "Plan bytes": modules, rules, responses, figures and the 48 bytes.
+
+use crate::answer::{Answer, Refusal};
+use crate::costs::{Chain, MOST_TASKS};
+
+/// A plan may have a module for each task.
+pub const RECORDS: usize = MOST_TASKS;
+const MODULE_BYTES: usize = 4;
+pub const PLAN_BYTES: usize = RECORDS * MODULE_BYTES;
+
+/// An unbroken run of tasks, counted from 1, in so many copies of so many cores each.
+#[derive(Clone, Copy, Debug, PartialEq, Eq)]
+pub struct Module {
+    pub first: usize,
+    pub last: usize,
+    pub copies: usize,
+    pub cores: usize,
+}
+
+impl Module {
+    pub fn replicable(&self, chain: &Chain) -> bool {
+        (self.first..=self.last).all(|task| chain.replicable(task))
+    }
+
+    pub fn memory_fits(&self, chain: &Chain) -> bool {
+        let need: u64 = (self.first..=self.last)
+            .map(|task| u64::from(chain.need(task)))
+            .sum();
+        need <= self.cores as u64 * u64::from(chain.capacity)
+    }
+
+    /// The executions and internal transfers; what goes out and comes in is not in it.
+    pub fn body(&self, chain: &Chain) -> u32 {
+        let executions = (self.first..=self.last).map(|task| chain.execution(task, self.cores));
+        let internals = (self.first..self.last).map(|task| chain.internal(task, self.cores));
+        executions.chain(internals).sum()
+    }
+}
+
+/// The sum of copies times cores.
+pub fn cores(plan: &[Module]) -> usize {
+    plan.iter().map(|module| module.copies * module.cores).sum()
+}
+
+/// Whether the modules keep document 01's rules; they cover the tasks in order.
+pub fn keeps_rules(chain: &Chain, plan: &[Module]) -> bool {
+    cores(plan) <= chain.cores
+        && plan.iter().all(|module| {
+            (module.copies == 1 || module.replicable(chain)) && module.memory_fits(chain)
+        })
+}
+
+/// What the module before the i-th, counted from 0, sends to it.
+pub fn received(chain: &Chain, plan: &[Module], i: usize) -> u32 {
+    if i == 0 {
+        return 0;
+    }
+    let before = plan[i - 1];
+    chain.external(before.last, before.cores, plan[i].cores)
+}
+
+/// What the i-th module, counted from 0, sends to the one after it.
+pub fn sent(chain: &Chain, plan: &[Module], i: usize) -> u32 {
+    if i + 1 == plan.len() {
+        return 0;
+    }
+    chain.external(plan[i].last, plan[i].cores, plan[i + 1].cores)
+}
+
+/// The response of the i-th module, counted from 0.
+pub fn response(chain: &Chain, plan: &[Module], i: usize) -> u32 {
+    received(chain, plan, i) + plan[i].body(chain) + sent(chain, plan, i)
+}
+
+/// A response divided by the copies, not reduced: a bottleneck or one that might be.
+#[derive(Clone, Copy, Debug)]
+pub struct Load {
+    pub response: u32,
+    pub copies: u32,
+}
+
+impl Load {
+    /// Whether this fraction is less than the other one, exactly.
+    pub fn is_less(self, other: Load) -> bool {
+        let this = u64::from(self.response) * u64::from(other.copies);
+        this < u64::from(other.response) * u64::from(self.copies)
+    }
+}
+
+/// The loads of all modules.
+pub fn loads(chain: &Chain, plan: &[Module]) -> Vec<Load> {
+    let load = |i: usize| Load {
+        response: response(chain, plan, i),
+        copies: plan[i].copies as u32,
+    };
+    (0..plan.len()).map(load).collect()
+}
+
+/// The first greatest of at least one load, counted from 0.
+pub fn slowest(loads: &[Load]) -> usize {
+    let mut first = 0;
+    for i in 1..loads.len() {
+        if loads[first].is_less(loads[i]) {
+            first = i;
+        }
+    }
+    first
+}
+
+/// The greatest load of a plan.
+pub fn bottleneck(chain: &Chain, plan: &[Module]) -> Load {
+    let loads = loads(chain, plan);
+    loads[slowest(&loads)]
+}
+
+/// The figures of a plan that keeps the rules.
+pub fn figures(chain: &Chain, plan: &[Module]) -> Answer {
+    let loads = loads(chain, plan);
+    let slowest = slowest(&loads);
+    Answer {
+        refusal: 0,
+        place: 0,
+        modules: plan.len() as u32,
+        cores: cores(plan) as u32,
+        slowest: slowest as u32 + 1,
+        response: loads[slowest].response,
+        copies: loads[slowest].copies,
+    }
+}
+
+/// The bytes of a plan: unused records are zero and stand last.
+pub fn encode(plan: &[Module]) -> [u8; PLAN_BYTES] {
+    let mut bytes = [0; PLAN_BYTES];
+    for (record, module) in bytes.chunks_exact_mut(MODULE_BYTES).zip(plan) {
+        let numbers = [module.first, module.last, module.copies, module.cores];
+        record.copy_from_slice(&numbers.map(|number| number as u8));
+    }
+    bytes
+}
+
+/// The twelve records as they are written: first, last, copies, cores.
+pub fn records(plan: &[u8; PLAN_BYTES]) -> Vec<Module> {
+    let module = |record: &[u8]| Module {
+        first: record[0].into(),
+        last: record[1].into(),
+        copies: record[2].into(),
+        cores: record[3].into(),
+    };
+    plan.chunks_exact(MODULE_BYTES).map(module).collect()
+}
+
+/// Refusal 7 unless the lent bytes have room for a plan.
+pub fn enough_bytes(plan: &[u8]) -> Result<(), Refusal> {
+    if plan.len() < PLAN_BYTES {
+        return Err(Refusal::new(7));
+    }
+    Ok(())
+}

@@ -1,0 +1,99 @@
+//! All services on one accepted file, compared, with a count of what was met.
+
+use crate::answer::Answer;
+use crate::cases::Case;
+use crate::compare::{self, Difference, Lent};
+use crate::damage;
+use crate::every::WORK_WORDS;
+use crate::plan::PLAN_BYTES;
+use crate::random::Random;
+use crate::services::Services;
+use crate::tally::Tally;
+
+/// Best plan; Judge on its plan; the greedy plan with every grouping, and Judge on each; Judge on some random plans.
+pub fn all(
+    expected: &Services,
+    found: &Services,
+    case: &Case,
+    tally: &mut Tally,
+) -> Result<(), Difference> {
+    let mut random = Random::new(!case.seed);
+    let lent = Lent {
+        plan: PLAN_BYTES + random.pick(&[0, 0, 1, 5]),
+        work: WORK_WORDS + random.pick(&[0, 0, 1, 100]),
+        seed: random.word(),
+    };
+    let (answer, plan) = compare::best_plan(expected, found, &case.costs, lent)?;
+    count("best plan", answer, tally);
+    judge_filled(expected, found, case, answer, &plan)?;
+    all_groupings(expected, found, case, lent, tally)?;
+    for _ in 0..6 {
+        let (tasks, cores) = (case.costs[3].into(), case.costs[2].into());
+        let plan = damage::random_plan(tasks, cores, &mut random);
+        let answer = compare::judge(expected, found, &case.costs, &plan)?;
+        count("judge", answer, tally);
+    }
+    Ok(())
+}
+
+/// Every grouping that the chain has, then one with each bit that it has not.
+fn all_groupings(
+    expected: &Services,
+    found: &Services,
+    case: &Case,
+    lent: Lent,
+    tally: &mut Tally,
+) -> Result<(), Difference> {
+    let tasks = case.costs[3];
+    let allowed = 0..1 << (tasks - 1);
+    let beyond = (tasks - 1..16).map(|bit| 1 << bit | 1);
+    for grouping in allowed.chain(beyond) {
+        let (answer, plan) = compare::greedy_plan(expected, found, &case.costs, grouping, lent)?;
+        count("greedy plan", answer, tally);
+        judge_filled(expected, found, case, answer, &plan)?;
+    }
+    Ok(())
+}
+
+/// Judge answers the figures of whoever filled the plan in.
+fn judge_filled(
+    expected: &Services,
+    found: &Services,
+    case: &Case,
+    answer: Answer,
+    plan: &[u8],
+) -> Result<(), Difference> {
+    if answer.refusal != 0 {
+        return Ok(());
+    }
+    let judged = compare::judge(expected, found, &case.costs, plan)?;
+    if judged != answer {
+        let what = format!("filled in as {answer:?}, judged as {judged:?}");
+        let service = "judge";
+        return Err(Difference { service, what });
+    }
+    Ok(())
+}
+
+/// Counts the refusal, or what is particular about the figures.
+pub fn count(service: &str, answer: Answer, tally: &mut Tally) {
+    if answer.refusal != 0 {
+        tally.add(format!("{service}: refusal {}", answer.refusal));
+        return;
+    }
+    tally.add(format!("{service}: figures"));
+    let particulars = [
+        (answer.modules > 1, "several modules"),
+        (answer.modules > 2, "more than two modules"),
+        (answer.slowest > 1, "slowest is not the first module"),
+        (answer.copies > 1, "several copies of the slowest"),
+        (answer.response == 0, "bottleneck 0"),
+        (
+            !answer.response.is_multiple_of(answer.copies),
+            "bottleneck not a whole number",
+        ),
+    ];
+    for (_, what) in particulars.iter().filter(|(is_so, _)| *is_so) {
+        tally.add(format!("{service}: {what}"));
+    }
+}

@@ -1,0 +1,75 @@
+//! Best plan by thresholds, in the lent words: the static library's algorithm, loop for loop, in plain Rust.
+//!
+//! Fractions whose denominators are at most 32 are equal or at least 1/1024 apart. So the least n for which some plan has
+//! every response · 1024 at most n · copies is found by bisection, and all plans within that n have equal bottlenecks.
+
+mod lookup;
+mod table;
+mod walk;
+
+use crate::answer::{Answer, Refusal};
+use crate::costs;
+use crate::every::WORK_WORDS;
+use crate::judge;
+use crate::plan::{self, PLAN_BYTES};
+use lookup::Lookup;
+
+const GRAIN: u64 = 1024;
+
+/// The greatest threshold: no module takes more than 23,000,000 ticks.
+const TOP: u64 = 23_000_000 * GRAIN;
+
+/// Answers and leaves the lent bytes and words as `every::best_plan` does.
+pub fn best_plan(costs: &[u8], plan: &mut [u8], work: &mut [u32]) -> Answer {
+    let chain = match costs::read(costs) {
+        Ok(chain) => chain,
+        Err(refusal) => return refusal.into(),
+    };
+    if let Err(refusal) = plan::enough_bytes(plan) {
+        return refusal.into();
+    }
+    if work.len() < WORK_WORDS {
+        return Refusal::new(8).into();
+    }
+    let costs_at = Lookup::new(costs, &chain);
+    work.fill(0);
+    let found = search(&costs_at, work);
+    work.fill(0);
+    match found {
+        None => Refusal::new(9).into(),
+        Some(bytes) => {
+            plan[..PLAN_BYTES].copy_from_slice(&bytes);
+            judge::judge(costs, plan)
+        }
+    }
+}
+
+/// The bytes of the best plan, or none if no plan keeps the rules.
+fn search(costs: &Lookup, work: &mut [u32]) -> Option<[u8; PLAN_BYTES]> {
+    if cores_within(costs, work, TOP) > costs.cores as u32 {
+        return None;
+    }
+    let n = least_threshold(costs, work);
+    let cores = cores_within(costs, work, n);
+    Some(walk::lay_path(costs, work, n, cores))
+}
+
+/// The table of the threshold n, and the least cores of a plan within n.
+fn cores_within(costs: &Lookup, work: &mut [u32], n: u64) -> u32 {
+    table::fill(costs, work, n);
+    table::least_cores(costs, work, n)
+}
+
+/// By bisection, where some plan is within the greatest threshold.
+fn least_threshold(costs: &Lookup, work: &mut [u32]) -> u64 {
+    let (mut lo, mut hi) = (0, TOP);
+    while lo < hi {
+        let mid = lo + (hi - lo) / 2;
+        if cores_within(costs, work, mid) <= costs.cores as u32 {
+            hi = mid;
+        } else {
+            lo = mid + 1;
+        }
+    }
+    lo
+}

@@ -1,0 +1,117 @@
+//! The table of a threshold: the least cores of a plan of the tasks that are left, one word for each kind 5 record in the
+//! same order, filled from its end. One more than the board's cores stands for "none".
+
+use super::GRAIN;
+use super::lookup::Lookup;
+
+/// Where a module begins: after task t and a module of s cores, with q cores of its own. No module before: t and s are 0.
+#[derive(Clone, Copy)]
+struct Place {
+    s: usize,
+    t: usize,
+    q: usize,
+}
+
+/// The fewest copies that bring the load down to n; 0 where none do.
+fn fewest_copies(replicable: bool, load: u64, n: u64) -> u64 {
+    if load <= n {
+        return 1;
+    }
+    if replicable && n >= 1 {
+        return load.div_ceil(n);
+    }
+    0
+}
+
+/// The table after task t and a module of s cores, where the next module has q cores, 0 for none.
+pub fn read(costs: &Lookup, work: &[u32], s: usize, t: usize, q: usize) -> u32 {
+    let none = costs.cores as u32 + 1;
+    if t == costs.tasks {
+        return if q == 0 { 0 } else { none };
+    }
+    if q == 0 {
+        return none;
+    }
+    work[((t - 1) * costs.cores + s - 1) * costs.cores + q - 1]
+}
+
+/// The least over the copies of the module up to task l, before one of `next` cores.
+fn over_copies(
+    costs: &Lookup,
+    work: &[u32],
+    n: u64,
+    place: Place,
+    (l, next): (usize, usize),
+    (base, replicable): (u64, bool),
+) -> u32 {
+    let cores = costs.cores as u32;
+    let none = cores + 1;
+    let load = (base + costs.transfer(l, place.q, next)) * GRAIN;
+    let r = fewest_copies(replicable, load, n);
+    if r < 1 || r > costs.cores as u64 {
+        return none;
+    }
+    let price = r as u32 * place.q as u32;
+    if cores < place.s as u32 + price + next as u32 {
+        return none;
+    }
+    none.min(price + read(costs, work, place.q, l, next))
+}
+
+/// And over the cores of the module after it, where its memory fits.
+fn over_next(costs: &Lookup, work: &[u32], n: u64, place: Place, l: usize) -> u32 {
+    let Place { s, t, q } = place;
+    let base = costs.transfer(t, s, q) + costs.body(t + 1, l, q);
+    let module = (base, costs.rules_met(t + 1, l, 2, q));
+    if l == costs.tasks {
+        return over_copies(costs, work, n, place, (l, 0), module);
+    }
+    let mut least = costs.cores as u32 + 1;
+    for next in 1..=costs.cores - (s + q) {
+        least = least.min(over_copies(costs, work, n, place, (l, next), module));
+    }
+    least
+}
+
+/// And over its last task, up to the first that its memory does not allow: one cell of the table.
+fn over_last(costs: &Lookup, work: &[u32], n: u64, place: Place) -> u32 {
+    let mut least = costs.cores as u32 + 1;
+    for l in place.t + 1..=costs.tasks {
+        if !costs.memory_fits(place.t + 1, l, place.q) {
+            return least;
+        }
+        least = least.min(over_next(costs, work, n, place, l));
+    }
+    least
+}
+
+/// A cell, from a table that holds the later ones.
+fn cell(costs: &Lookup, work: &[u32], n: u64, index: usize) -> u32 {
+    let cores = costs.cores;
+    let place = Place {
+        s: index / cores % cores + 1,
+        t: index / (cores * cores) + 1,
+        q: index % cores + 1,
+    };
+    if place.s + place.q <= cores {
+        return over_last(costs, work, n, place);
+    }
+    cores as u32 + 1
+}
+
+/// The whole table of the threshold n.
+pub fn fill(costs: &Lookup, work: &mut [u32], n: u64) {
+    for index in (0..(costs.tasks - 1) * costs.cores * costs.cores).rev() {
+        work[index] = cell(costs, work, n, index);
+    }
+}
+
+/// The least cores of a plan within the threshold n, from its table.
+pub fn least_cores(costs: &Lookup, work: &[u32], n: u64) -> u32 {
+    let mut least = costs.cores as u32 + 1;
+    for q in 1..=costs.cores {
+        let place = Place { s: 0, t: 0, q };
+        least = least.min(over_last(costs, work, n, place));
+    }
+    least
+}

@@ -1,0 +1,112 @@
+//! The walk: module by module, the first in module order after which the rest still fits in what is left.
+
+use super::GRAIN;
+use super::lookup::Lookup;
+use super::table;
+use crate::plan::{self, Module, PLAN_BYTES};
+
+/// The threshold and its table.
+struct Within<'a> {
+    costs: &'a Lookup<'a>,
+    work: &'a [u32],
+    n: u64,
+}
+
+/// The module that the walk has passed, the cores of the one before it, and what is left after it, plus one.
+#[derive(Clone, Copy)]
+struct Passed {
+    before: usize,
+    module: Module,
+    left: u32,
+}
+
+impl Within<'_> {
+    /// Whether the module keeps the rules, is within n and has room, between modules of s and q cores.
+    fn fits(&self, s: usize, module: Module, q: usize) -> bool {
+        let Module {
+            first,
+            last,
+            copies,
+            cores,
+        } = module;
+        if self.costs.cores < s + copies * cores + q {
+            return false;
+        }
+        if !self.costs.rules_met(first, last, copies, cores) {
+            return false;
+        }
+        let received = self.costs.transfer(first - 1, s, cores);
+        let sent = self.costs.transfer(last, cores, q);
+        let response = received + self.costs.body(first, last, cores) + sent;
+        response * GRAIN <= self.n * copies as u64
+    }
+
+    /// What is left for a module of q cores and all after it, plus one.
+    fn room(&self, passed: Passed, q: usize) -> u32 {
+        if passed.module.last == 0 || self.fits(passed.before, passed.module, q) {
+            return passed.left;
+        }
+        0
+    }
+
+    /// Whether the module may come next: for some cores of the one after it, it fits and so does the lightest rest.
+    fn may_come(&self, passed: Passed, module: Module) -> bool {
+        let room = self.room(passed, module.cores);
+        let price = (module.copies * module.cores) as u32;
+        for q in 0..=self.costs.cores {
+            let rest = table::read(self.costs, self.work, module.cores, module.last, q);
+            if price + rest < room && self.fits(passed.module.cores, module, q) {
+                return true;
+            }
+        }
+        false
+    }
+
+    /// The first module in module order that may come next; there is one.
+    fn next_module(&self, passed: Passed) -> Module {
+        let first = passed.module.last + 1;
+        for last in first..=self.costs.tasks {
+            for copies in 1..=self.costs.cores {
+                for cores in 1..=self.costs.cores {
+                    let module = Module {
+                        first,
+                        last,
+                        copies,
+                        cores,
+                    };
+                    if self.may_come(passed, module) {
+                        return module;
+                    }
+                }
+            }
+        }
+        unreachable!("the table says that a module may come next");
+    }
+}
+
+/// The first plan in module order of so many cores within n, from the table of n.
+pub fn lay_path(costs: &Lookup, work: &[u32], n: u64, cores: u32) -> [u8; PLAN_BYTES] {
+    let within = Within { costs, work, n };
+    let mut path = Vec::new();
+    let mut passed = Passed {
+        before: 0,
+        module: Module {
+            first: 0,
+            last: 0,
+            copies: 0,
+            cores: 0,
+        },
+        left: cores + 1,
+    };
+    while passed.module.last < costs.tasks {
+        let module = within.next_module(passed);
+        let room = within.room(passed, module.cores);
+        path.push(module);
+        passed = Passed {
+            before: passed.module.cores,
+            module,
+            left: room - (module.copies * module.cores) as u32,
+        };
+    }
+    plan::encode(&path)
+}

@@ -1,0 +1,198 @@
+//! The wrong planners: document 01's "Where a plan goes astray", then "Before anyone tests", then mistakes in what is lent.
+
+mod judges;
+pub mod searches;
+
+use reference::answer::{Answer, Refusal};
+use reference::costs::Chain;
+use reference::every;
+use reference::greedy::{self, give};
+use reference::plan::{self, Module, PLAN_BYTES};
+use reference::services::{REFERENCE, Services};
+
+pub struct Mistake {
+    pub what: &'static str,
+    pub shows_in: &'static str,
+    pub services: Services,
+}
+
+const fn in_best_plan(
+    what: &'static str,
+    best_plan: fn(&[u8], &mut [u8], &mut [u32]) -> Answer,
+) -> Mistake {
+    Mistake {
+        what,
+        shows_in: "best plan",
+        services: Services {
+            best_plan,
+            ..REFERENCE
+        },
+    }
+}
+
+const fn in_greedy_plan(
+    what: &'static str,
+    greedy_plan: fn(&[u8], u16, &mut [u8]) -> Answer,
+) -> Mistake {
+    Mistake {
+        what,
+        shows_in: "greedy plan",
+        services: Services {
+            greedy_plan,
+            ..REFERENCE
+        },
+    }
+}
+
+const fn in_judge(what: &'static str, judge: fn(&[u8], &[u8]) -> Answer) -> Mistake {
+    Mistake {
+        what,
+        shows_in: "judge",
+        services: Services { judge, ..REFERENCE },
+    }
+}
+
+pub const MISTAKES: [Mistake; 27] = [
+    // where a plan goes astray
+    in_best_plan("drops the rest when dividing by r", |costs, plan, work| {
+        every::best_plan_by(searches::drops_the_rest, costs, plan, work)
+    }),
+    in_judge("drops the rest when dividing by r", |costs, plan| {
+        judges::judge_by(judges::whole_loads, costs, plan)
+    }),
+    in_best_plan("fixes p before the next p is known", |costs, plan, work| {
+        every::best_plan_by(searches::fixes_cores_early, costs, plan, work)
+    }),
+    in_best_plan("one plan per count of cores", |costs, plan, work| {
+        every::best_plan_by(searches::forgets_last_cores, costs, plan, work)
+    }),
+    in_greedy_plan("stops when it fails to fall", |costs, grouping, plan| {
+        greedy::greedy_plan_by(stops_early, costs, grouping, plan)
+    }),
+    in_best_plan("charges the sender only", |costs, plan, work| {
+        every::best_plan_by(searches::charges_sender, costs, plan, work)
+    }),
+    in_best_plan("charges the receiver only", |costs, plan, work| {
+        every::best_plan_by(searches::charges_receiver, costs, plan, work)
+    }),
+    in_judge("charges the sender only", |costs, plan| {
+        judges::judge_by(judges::sender_loads, costs, plan)
+    }),
+    in_judge("charges the receiver only", |costs, plan| {
+        judges::judge_by(judges::receiver_loads, costs, plan)
+    }),
+    // before anyone tests
+    in_best_plan("one-module plans only", |costs, plan, work| {
+        every::best_plan_by(searches::one_module, costs, plan, work)
+    }),
+    in_greedy_plan("gives out its first core only", |costs, grouping, plan| {
+        greedy::greedy_plan_by(first_core_only, costs, grouping, plan)
+    }),
+    in_best_plan("9 before searching", |costs, plan, work| {
+        every::best_plan_by(|_| None, costs, plan, work)
+    }),
+    in_best_plan("refuses all costs", |_, _, _| Refusal::new(1).into()),
+    in_greedy_plan("refuses all costs", |_, _, _| Refusal::new(1).into()),
+    in_judge("refuses all costs", |_, _| Refusal::new(1).into()),
+    in_best_plan("one fixed plan", |costs, plan, work| {
+        every::best_plan_by(|chain| Some(whole_board(chain)), costs, plan, work)
+    }),
+    in_greedy_plan("one fixed plan", |costs, grouping, plan| {
+        greedy::greedy_plan_by(|chain, _| whole_board(chain), costs, grouping, plan)
+    }),
+    in_best_plan("plan bytes left blank", |costs, plan, work| {
+        let answer = every::best_plan(costs, plan, work);
+        blank(plan, answer)
+    }),
+    in_greedy_plan("plan bytes left blank", |costs, grouping, plan| {
+        let answer = greedy::greedy_plan(costs, grouping, plan);
+        blank(plan, answer)
+    }),
+    in_best_plan("a made-up number of cores", |costs, plan, work| {
+        all_cores(costs, every::best_plan(costs, plan, work))
+    }),
+    in_greedy_plan("a made-up number of cores", |costs, grouping, plan| {
+        all_cores(costs, greedy::greedy_plan(costs, grouping, plan))
+    }),
+    in_judge("a made-up number of cores", |costs, plan| {
+        all_cores(costs, (REFERENCE.judge)(costs, plan))
+    }),
+    // ties and what is lent
+    in_best_plan(
+        "any number of cores on equal bottlenecks",
+        |costs, plan, work| every::best_plan_by(searches::ignores_cores, costs, plan, work),
+    ),
+    in_best_plan("the last plan in module order", |costs, plan, work| {
+        every::best_plan_by(searches::last_in_order, costs, plan, work)
+    }),
+    in_best_plan("a word of the work area left", |costs, plan, work| {
+        let last = *work.last().unwrap_or(&0);
+        let answer = every::best_plan(costs, plan, work);
+        work.last_mut().into_iter().for_each(|word| *word = last);
+        answer
+    }),
+    in_best_plan("a plan byte written with refusal 9", |costs, plan, work| {
+        let answer = every::best_plan(costs, plan, work);
+        if answer.refusal == 9 {
+            plan[0] ^= 1;
+        }
+        answer
+    }),
+    in_best_plan("the 49th plan byte written", |costs, plan, work| {
+        let answer = every::best_plan(costs, plan, work);
+        if let Some(byte) = plan.get_mut(PLAN_BYTES) {
+            *byte ^= 1;
+        }
+        answer
+    }),
+];
+
+fn stops_early(chain: &Chain, start: Vec<Module>) -> Vec<Module> {
+    let mut best = start;
+    while plan::cores(&best) < chain.cores {
+        let next = give(chain, &best);
+        if !plan::bottleneck(chain, &next).is_less(plan::bottleneck(chain, &best)) {
+            break;
+        }
+        best = next;
+    }
+    best
+}
+
+fn first_core_only(chain: &Chain, start: Vec<Module>) -> Vec<Module> {
+    if plan::cores(&start) == chain.cores {
+        return start;
+    }
+    let next = give(chain, &start);
+    if plan::bottleneck(chain, &next).is_less(plan::bottleneck(chain, &start)) {
+        return next;
+    }
+    start
+}
+
+/// All tasks and all cores in one module.
+fn whole_board(chain: &Chain) -> Vec<Module> {
+    vec![Module {
+        first: 1,
+        last: chain.tasks,
+        copies: 1,
+        cores: chain.cores,
+    }]
+}
+
+fn blank(plan: &mut [u8], answer: Answer) -> Answer {
+    if answer.refusal == 0 {
+        plan[..PLAN_BYTES].fill(0);
+    }
+    answer
+}
+
+fn all_cores(costs: &[u8], answer: Answer) -> Answer {
+    if answer.refusal != 0 {
+        return answer;
+    }
+    Answer {
+        cores: costs[2].into(),
+        ..answer
+    }
+}

@@ -1,0 +1,101 @@
+//! Files that are too large for trying all plans: the library's plan is that of the same search in Rust, byte for byte, and
+//! its bottleneck that of the dynamic program.
+
+use reference::answer::Answer;
+use reference::cases::{self, Case, KINDS, Kind};
+use reference::compare::{self, Difference, Lent};
+use reference::costs::{self, MOST_CORES, MOST_TASKS, MOST_VALUE};
+use reference::paper;
+use reference::plan::Load;
+use reference::random::Random;
+use reference::round;
+use reference::services::{LIBRARY, QUICK_REFERENCE};
+use reference::tally::Tally;
+
+/// Best plan by all three searches, Judge on its plan, and the greedy plan with some groupings.
+fn check(case: &Case, tally: &mut Tally) -> Result<(), Difference> {
+    let lent = Lent::enough(case.seed);
+    let (answer, plan) = compare::best_plan(&QUICK_REFERENCE, &LIBRARY, &case.costs, lent)?;
+    round::count("best plan", answer, tally);
+    expect_bottleneck(&case.costs, answer)?;
+    compare::judge(&QUICK_REFERENCE, &LIBRARY, &case.costs, &plan)?;
+    let mut random = Random::new(case.seed);
+    for _ in 0..20 {
+        let grouping = random.word() as u16 & ((1 << (case.costs[3] - 1)) - 1);
+        let grouping = grouping & random.word() as u16;
+        let (answer, plan) =
+            compare::greedy_plan(&QUICK_REFERENCE, &LIBRARY, &case.costs, grouping, lent)?;
+        round::count("greedy plan", answer, tally);
+        compare::judge(&QUICK_REFERENCE, &LIBRARY, &case.costs, &plan)?;
+    }
+    Ok(())
+}
+
+/// The answer's bottleneck equals, as a fraction, the least one of the dynamic program.
+fn expect_bottleneck(costs: &[u8], answer: Answer) -> Result<(), Difference> {
+    let chain = costs::read(costs).expect("an accepted file");
+    let least = paper::least_bottleneck(&chain);
+    let found = Load {
+        response: answer.response,
+        copies: answer.copies,
+    };
+    let same = match least {
+        None => answer.refusal == 9,
+        Some(least) => answer.refusal == 0 && !least.is_less(found) && !found.is_less(least),
+    };
+    if same {
+        return Ok(());
+    }
+    let service = "best plan";
+    let what = format!("dynamic program: {least:?}, found {answer:?}");
+    Err(Difference { service, what })
+}
+
+fn check_all(title: &str, files: impl Iterator<Item = Case>) -> Tally {
+    let mut tally = Tally::default();
+    for case in files {
+        tally.add(format!("kind {:?}", case.kind));
+        if let Err(difference) = check(&case, &mut tally) {
+            compare::fail(case.seed, &case.costs, &difference);
+        }
+    }
+    tally.print(title);
+    tally
+}
+
+#[test]
+fn most_tasks_and_cores() {
+    let seeds = 0..4;
+    let files =
+        seeds.flat_map(|seed| KINDS.map(|kind| cases::sized(kind, MOST_TASKS, MOST_CORES, seed)));
+    let tally = check_all("12 tasks, 32 cores", files);
+    tally.assert_at_least("best plan: figures", 32);
+    tally.assert_at_least("best plan: refusal 9", 4);
+    tally.assert_at_least("best plan: several modules", 10);
+}
+
+#[test]
+fn greatest_and_least_times() {
+    let mut chains = [0, 1, MOST_VALUE].map(|time| cases::constant(MOST_TASKS, MOST_CORES, time));
+    chains[1].flags[5] = false;
+    chains[2].flags.fill(false);
+    let files = chains.iter().map(|chain| Case {
+        seed: 0,
+        kind: Kind::Ties,
+        costs: costs::write(chain),
+    });
+    check_all("12 tasks, 32 cores, all times equal", files);
+}
+
+#[test]
+fn sizes_between() {
+    let files = (0..180).map(|seed| {
+        let mut random = Random::new(!seed);
+        let (tasks, cores) = (random.within(4, 12), random.within(8, 20));
+        let kind = KINDS[seed as usize % KINDS.len()];
+        cases::sized(kind, tasks, cores, seed)
+    });
+    let tally = check_all("4 to 12 tasks, 8 to 20 cores", files);
+    tally.assert_at_least("best plan: figures", 150);
+    tally.assert_at_least("best plan: several modules", 60);
+}
