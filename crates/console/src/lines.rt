@@ -13,11 +13,9 @@ use crate::words::ended;
 use crate::words::spaced;
 use crate::words::with_text;
 use figures::Answer;
+use figures::MOST_MODULES;
 use figures::Module;
 use records::Board;
-
-// The most modules of a plan.
-const MOST_MODULES: u32 = 12;
 
 // The text, then a module of response x.
 fn module_line(t: Text, m: Module, x: u64) -> Text

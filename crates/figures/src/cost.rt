@@ -71,8 +71,7 @@ pub(crate) fn marks(costs: &[u8], board: Board, first: u8, last: u8) -> u64
 pub fn transfer(costs: &[u8], board: Board, t: u8, s: u8, q: u8) -> u32
     ensures { λ r. ⌜ r ≡ transferOf (chainOf (now (costs .entry)) board) t s q ⌝ }
 {
-    let part = records::pair(costs, board, t);
-    records::external(part, board.cores, s, q)
+    records::transfer(costs, board, t, s, q)
 }
 
 // The response of the module m between one of s cores and one of q, 0 for none.

@@ -23,6 +23,11 @@ pub use rules::fewest_cores;
 pub use rules::memory_fits;
 pub use rules::rules_met;
 
+// The most modules of a plan, and the bytes that they take.
+pub const MOST_MODULES: u32 = 12;
+
+pub const PLAN_BYTES: usize = 48;
+
 // A module of a plan: an unbroken run of tasks, first to last, in r copies of p cores each.
 pub struct Module {
     pub first: u8,

@@ -9,15 +9,12 @@ ghost use Rattle.figures.specs.Model.{chainOf, coresOf, slowerOf, bottle
 ghost use Rattle.figures.specs.Plan.{mostModules, moduleAt, recordOf, coresBefore, moduleCount, modulesFrom, modulesOf, slownessAt, putModule, putPlan, figuresOf, responseAt};
 ghost use Rattle.figures.specs.Judge.{refusal};
 use crate::Answer;
+use crate::MOST_MODULES;
 use crate::Module;
+use crate::PLAN_BYTES;
 use crate::Slowest;
 use crate::cost::response_of;
 use records::Board;
-
-// The most modules of a plan, and the bytes that they take.
-const MOST_MODULES: u32 = 12;
-
-const PLAN_BYTES: usize = 48;
 
 fn byte_at(plan: &[u8], i: usize) -> u8
     ensures { λ r. ⌜ r ≡ getD (now (plan .entry)) i 0 ⌝ }
@@ -84,7 +81,7 @@ pub fn put_module(plan: &mut [u8], i: u32, m: Module)
 }
 
 // Copies a whole plan to the start of the lent bytes, where they have room for one.
-pub fn put_plan(from: [u8; 48], plan: &mut [u8])
+pub fn put_plan(from: [u8; PLAN_BYTES], plan: &mut [u8])
     ensures { λ _. ⌜ now (plan .exit) ≡ putPlan from (now (plan .entry)) ⌝ }
 {
     if plan.len() < PLAN_BYTES {

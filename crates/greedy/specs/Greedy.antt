@@ -109,10 +109,12 @@ greedyAnswer s g w =
     (cond (leb planBytes (length w)) (greedyOn (chainOf s (r .board)) g) (refusal 7 0))
     (refusal (r .number) (r .place))
 
--- what the plan bytes are afterwards: as lent where it refuses
+-- what the plan bytes w are after the answer a with the plan ms: as lent where it refuses
+abbrev pub filled : Answer → List Module → List ℕ → List ℕ
+filled a ms w = cond (eqb (a .number) 0) (encodePlan ms ++ drop planBytes w) w
+
 unfoldable pub greedyBytesOn : Chain → ℕ → List ℕ → List ℕ
-greedyBytesOn c g w = cond (eqb (greedyOn c g .number) 0) (encodePlan (greedyPlan c g) ++ drop planBytes w) w
+greedyBytesOn c g w = filled (greedyOn c g) (greedyPlan c g) w
 
 unfoldable pub greedyBytes : List ℕ → ℕ → List ℕ → List ℕ
-greedyBytes s g w =
-    cond (eqb (greedyAnswer s g w .number) 0) (encodePlan (greedyPlan (chainOf s (readCosts s .board)) g) ++ drop planBytes w) w
+greedyBytes s g w = filled (greedyAnswer s g w) (greedyPlan (chainOf s (readCosts s .board)) g) w

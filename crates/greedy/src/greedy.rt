@@ -9,18 +9,16 @@ ghost use Rattle.greedy.specs.Greedy.{bit, start, time, consider as cons
 ghost use Rattle.greedy.specs.Assignment.{lastOf, Assigned, choiceOf, Chosen};
 use figures::Answer;
 use figures::Module;
+use figures::PLAN_BYTES;
 use figures::put_plan;
 use figures::refuse;
 use records::Board;
-
-// The bytes of a plan.
-const PLAN_BYTES: usize = 48;
 
 // The best candidate so far for one core more: whether there is one, its bottleneck and its assignment.
 pub(crate) struct Choice {
     pub found: bool,
     pub time: u64,
-    pub plan: [u8; 48],
+    pub plan: [u8; PLAN_BYTES],
 }
 
 // Whether the grouping ends a module after task t.
@@ -80,7 +78,7 @@ fn put_start(costs: &[u8], board: Board, grouping: u16, plan: &mut [u8]) -> u32
 }
 
 // The assignment with one core more for the i-th module.
-fn give(plan: [u8; 48], i: u32) -> [u8; 48]
+fn give(plan: [u8; PLAN_BYTES], i: u32) -> [u8; PLAN_BYTES]
     requires { ⌜ (i < 12) × (getD plan (4 * i + 3) 0 < 255) ⌝ }
     ensures { λ r. ⌜ r ≡ set plan (4 * i + 3) (getD plan (4 * i + 3) 0 + 1) ⌝ }
 {
@@ -91,7 +89,7 @@ fn give(plan: [u8; 48], i: u32) -> [u8; 48]
 }
 
 // The bottleneck of an assignment.
-fn time_of(costs: &[u8], board: Board, plan: [u8; 48]) -> u64
+fn time_of(costs: &[u8], board: Board, plan: [u8; PLAN_BYTES]) -> u64
     ensures { λ r. ⌜ r ≡ time (chainOf (now (costs .entry)) board) (modulesOf plan (board .tasks)) ⌝ }
 {
     let f = figures::figures(costs, board, &plan);
@@ -99,7 +97,7 @@ fn time_of(costs: &[u8], board: Board, plan: [u8; 48]) -> u64
 }
 
 // The candidate i, where it may take a core, against the best so far.
-fn consider(costs: &[u8], board: Board, plan: [u8; 48], best: Choice, i: u32) -> Choice
+fn consider(costs: &[u8], board: Board, plan: [u8; PLAN_BYTES], best: Choice, i: u32) -> Choice
     requires { ⌜ (1 ≤ board .tasks) × (board .tasks ≤ 12) × Assigned (board .tasks) plan × (coresOf (modulesOf plan (board .tasks)) < 255)
         × Chosen (chainOf (now costs) board) (modulesOf plan (board .tasks)) best ⌝ }
     ensures { λ r. ⌜ Chosen (chainOf (now (costs .entry)) board) (modulesOf plan (board .tasks)) r
@@ -124,7 +122,7 @@ fn consider(costs: &[u8], board: Board, plan: [u8; 48], best: Choice, i: u32) ->
 }
 
 // Step 3: one core more for the first slowest module, its predecessor or its successor, by which gives the least bottleneck.
-fn next_of(costs: &[u8], board: Board, plan: [u8; 48]) -> Choice
+fn next_of(costs: &[u8], board: Board, plan: [u8; PLAN_BYTES]) -> Choice
     requires { ⌜ (1 ≤ board .tasks) × (board .tasks ≤ 12) × Assigned (board .tasks) plan × (coresOf (modulesOf plan (board .tasks)) < 255) ⌝ }
     ensures { λ r. ⌜ Chosen (chainOf (now (costs .entry)) board) (modulesOf plan (board .tasks)) r
         × (choiceOf (board .tasks) r ≡ next (chainOf (now (costs .entry)) board) (modulesOf plan (board .tasks))) ⌝ }
@@ -146,7 +144,7 @@ fn next_of(costs: &[u8], board: Board, plan: [u8; 48]) -> Choice
 }
 
 // Steps 2 to 4: the earliest assignment of least bottleneck on the way from the start, while a core is left.
-fn walk(costs: &[u8], board: Board, from: [u8; 48], left: u32) -> [u8; 48]
+fn walk(costs: &[u8], board: Board, from: [u8; PLAN_BYTES], left: u32) -> [u8; PLAN_BYTES]
     requires { ⌜ (1 ≤ board .tasks) × (board .tasks ≤ 12) × Assigned (board .tasks) from × (coresOf (modulesOf from (board .tasks)) + left ≤ 32) ⌝ }
     ensures { λ r. ⌜ r ≡ encodePlan (greedyFrom (chainOf (now (costs .entry)) board) left (modulesOf from (board .tasks)) (modulesOf from (board .tasks))) ⌝ }
 {
@@ -193,7 +191,7 @@ fn greedy_on(costs: &[u8], board: Board, grouping: u16, plan: &mut [u8]) -> Answ
     if groupings(board.tasks) <= (grouping as u32) {
         return refuse(10, 0);
     }
-    let mut from = [0u8; 48];
+    let mut from = [0u8; PLAN_BYTES];
     let cores = put_start(costs, board, grouping, &mut from);
     let total = board.cores as u32;
     if total < cores {

@@ -5,7 +5,9 @@ ghost use Rattle.figures.specs.Model.{chainOf};
 ghost use Rattle.figures.specs.Plan.{mostModules, modulesFrom, modulesOf};
 ghost use Rattle.figures.specs.Judge.{isBlank, isModule, blankFault, shapeFault, firstFailing, copiesTest, memoryTest, judgedPlan, judgedBytes, judged};
 use figures::Answer;
+use figures::MOST_MODULES;
 use figures::Module;
+use figures::PLAN_BYTES;
 use figures::copies_allowed;
 use figures::cores_used;
 use figures::memory_fits;
@@ -13,11 +15,6 @@ use figures::module_at;
 use figures::module_count;
 use figures::refuse;
 use records::Board;
-
-// The most modules of a plan, and the bytes that they take.
-const MOST_MODULES: u32 = 12;
-
-const PLAN_BYTES: usize = 48;
 
 // Whether a record is all 0.
 fn is_blank(m: Module) -> bool

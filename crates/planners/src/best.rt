@@ -10,12 +10,10 @@ use crate::bisect::cores_within;
 use crate::bisect::least_threshold;
 use crate::path::lay_path;
 use figures::Answer;
+use figures::PLAN_BYTES;
 use figures::put_plan;
 use figures::refuse;
 use records::Board;
-
-// The bytes of a plan.
-const PLAN_BYTES: usize = 48;
 
 const WORK_WORDS: usize = 16384;
 
@@ -46,7 +44,7 @@ fn search(costs: &[u8], board: Board, plan: &mut [u8], work: &mut [u32]) -> Answ
     }
     let n = least_threshold(costs, board, work, TOP);
     let cores = cores_within(costs, board, work, n);
-    let mut path = [0u8; 48];
+    let mut path = [0u8; PLAN_BYTES];
     lay_path(costs, board, work, n, cores, &mut path);
     put_plan(path, plan);
     figures::figures(costs, board, &path)

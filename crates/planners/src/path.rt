@@ -8,6 +8,7 @@ ghost use Rattle.search.specs.Best.{fitsAt, light, tableAt, plan as planOf};
 ghost use Rattle.search.specs.Flat.{readTable, Filled};
 ghost use Rattle.search.specs.Walk.{choice as choiceOf, chosen, goesOn};
 ghost use Rattle.planners.specs.Search.{problem, topThreshold, Sized, Holds, roomOf, FirstCores, FirstCopies, SomeNext};
+use crate::table::GRAIN;
 use crate::table::read_table;
 use figures::Module;
 use records::Board;
@@ -53,7 +54,7 @@ fn fits_at(costs: &[u8], board: Board, n: u64, s: u8, t: u8, l: u8, r: u8, p: u8
         cores: p,
     };
     let response = figures::response_of(costs, board, s, m, q);
-    response * 1024 <= n * (r as u64)
+    response * GRAIN <= n * (r as u64)
 }
 
 // What is left for a module of q cores and all after it, one more than its cores may be.

@@ -15,7 +15,7 @@ ghost use Rattle.planners.specs.Search.{problem, ofSize, topThreshold, H
 use records::Board;
 
 // Fractions whose denominators are at most 32 are equal or at least 1/1024 apart.
-const GRAIN: u64 = 1024;
+pub(crate) const GRAIN: u64 = 1024;
 
 fn lesser(a: u32, b: u32) -> u32
     ensures { λ r. ⌜ r ≡ lesserOf a b ⌝ }

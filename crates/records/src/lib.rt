@@ -5,10 +5,18 @@
 // the caller's bytes. No public function has a `requires`: each answers for every slice and every number.
 // Tasks and cores are counted from 1, in one byte each, so that no place in a file can overflow.
 mod bytes;
+mod held;
 mod keys;
 mod lookup;
 mod scan;
 
+pub use held::Costs;
+pub use held::execution_held;
+pub use held::external_held;
+pub use held::hold;
+pub use held::internal_held;
+pub use held::need_held;
+pub use held::replicable_held;
 pub use keys::count;
 pub use keys::fault;
 pub use lookup::execution;
@@ -17,6 +25,7 @@ pub use lookup::internal;
 pub use lookup::need;
 pub use lookup::pair;
 pub use lookup::replicable;
+pub use lookup::transfer;
 pub use scan::read;
 
 // The board of document 01: its k tasks, its P cores and the capacity of a core in KiB.

@@ -1,12 +1,19 @@
 // Lookups in the caller's bytes. Each is total: a task or a number of cores that the board does not have gives 0, `false`
-// or an empty part. On accepted costs each is the value of the record that bears the key.
+// or an empty part. On accepted costs each is the value of the record that bears the key. The work is done on the slice and
+// numbers (`need_at` and the like); the public functions go by way of the struct that holds both (held.rt).
 ghost use mathlib.Core.Path.{_≡_};
 ghost use Prim.Native.Nat.{_≤_, _<_};
 ghost use Rattle.records.specs.Costs.{within, hasNext, needOf, replicableOf, cellOf, executionOf, internalOf, pairPlace, pairOf, externalOf};
+ghost use Rattle.records.specs.Held.{boardWith};
 use crate::Board;
 use crate::bytes::byte_at;
 use crate::bytes::value_at;
 use crate::bytes::wide;
+use crate::held::execution_of;
+use crate::held::external_of;
+use crate::held::internal_of;
+use crate::held::need_of;
+use crate::held::replicable_of;
 
 // Whether i is one of 1 to top.
 fn is_within(i: u8, top: u8) -> bool
@@ -34,56 +41,6 @@ fn cell(i: u8, j: u8, width: u8) -> u32
     ensures { λ r. ⌜ (r ≡ cellOf width i j) × (r < 65536) ⌝ }
 {
     (wide(i) - 1) * wide(width) + (wide(j) - 1)
-}
-
-// The memory need of a task, in KiB.
-pub fn need(costs: &[u8], board: Board, task: u8) -> u32
-    ensures { λ r. ⌜ r ≡ needOf (now (costs .entry)) board task ⌝ }
-{
-    if is_within(task, board.tasks) {
-        value_at(costs, wide(task))
-    } else {
-        0
-    }
-}
-
-// Whether a task is marked as replicable.
-pub fn replicable(costs: &[u8], board: Board, task: u8) -> bool
-    ensures { λ r. ⌜ r ≡ replicableOf (now (costs .entry)) board task ⌝ }
-{
-    if is_within(task, board.tasks) {
-        let flag = byte_at(costs, wide(task), 2);
-        flag == 1
-    } else {
-        false
-    }
-}
-
-// The execution time of a task at p cores, in ticks.
-pub fn execution(costs: &[u8], board: Board, task: u8, p: u8) -> u32
-    ensures { λ r. ⌜ r ≡ executionOf (now (costs .entry)) board task p ⌝ }
-{
-    if is_within(task, board.tasks) {
-        if is_within(p, board.cores) {
-            let start = 1 + wide(board.tasks);
-            return value_at(costs, start + cell(task, p, board.cores));
-        }
-    }
-    0
-}
-
-// The internal transfer from a task to the next at p cores, in ticks.
-pub fn internal(costs: &[u8], board: Board, task: u8, p: u8) -> u32
-    ensures { λ r. ⌜ r ≡ internalOf (now (costs .entry)) board task p ⌝ }
-{
-    if has_next(task, board.tasks) {
-        if is_within(p, board.cores) {
-            let tasks = wide(board.tasks);
-            let first = 1 + tasks + tasks * wide(board.cores);
-            return value_at(costs, first + cell(task, p, board.cores));
-        }
-    }
-    0
 }
 
 // The place of the first kind 5 record of a task.
@@ -122,4 +79,102 @@ pub fn external(part: &[u8], cores: u8, s: u8, q: u8) -> u32
         }
     }
     0
+}
+
+// The memory need of a task of a chain of k.
+pub(crate) fn need_at(costs: &[u8], k: u8, task: u8) -> u32
+    ensures { λ r. ⌜ r ≡ needOf (now (costs .entry)) (boardWith k 0) task ⌝ }
+{
+    if is_within(task, k) {
+        value_at(costs, wide(task))
+    } else {
+        0
+    }
+}
+
+// Whether a task of a chain of k is marked as replicable.
+pub(crate) fn replicable_at(costs: &[u8], k: u8, task: u8) -> bool
+    ensures { λ r. ⌜ r ≡ replicableOf (now (costs .entry)) (boardWith k 0) task ⌝ }
+{
+    if is_within(task, k) {
+        let flag = byte_at(costs, wide(task), 2);
+        flag == 1
+    } else {
+        false
+    }
+}
+
+// The execution time of a task of a chain of k at p cores of a board of that many.
+pub(crate) fn execution_at(costs: &[u8], k: u8, cores: u8, task: u8, p: u8) -> u32
+    ensures { λ r. ⌜ r ≡ executionOf (now (costs .entry)) (boardWith k cores) task p ⌝ }
+{
+    if is_within(task, k) {
+        if is_within(p, cores) {
+            let start = 1 + wide(k);
+            return value_at(costs, start + cell(task, p, cores));
+        }
+    }
+    0
+}
+
+// The internal transfer from a task of a chain of k to the next at p cores of a board of that many.
+pub(crate) fn internal_at(costs: &[u8], k: u8, cores: u8, task: u8, p: u8) -> u32
+    ensures { λ r. ⌜ r ≡ internalOf (now (costs .entry)) (boardWith k cores) task p ⌝ }
+{
+    if has_next(task, k) {
+        if is_within(p, cores) {
+            let tasks = wide(k);
+            let first = 1 + tasks + tasks * wide(cores);
+            return value_at(costs, first + cell(task, p, cores));
+        }
+    }
+    0
+}
+
+// The external transfer from a task of a chain of k to the next, looked up in the pair's part.
+pub(crate) fn external_at(costs: &[u8], k: u8, cores: u8, task: u8, s: u8, q: u8) -> u32
+    ensures { λ r. ⌜ r ≡ externalOf (pairOf (now (costs .entry)) (boardWith k cores) task) cores s q ⌝ }
+{
+    let board = Board {
+        tasks: k,
+        cores,
+        capacity: 0,
+    };
+    let part = pair(costs, board, task);
+    external(part, cores, s, q)
+}
+
+// The memory need of a task, in KiB.
+pub fn need(costs: &[u8], board: Board, task: u8) -> u32
+    ensures { λ r. ⌜ r ≡ needOf (now (costs .entry)) board task ⌝ }
+{
+    need_of(costs, board.tasks, board.cores, task)
+}
+
+// Whether a task is marked as replicable.
+pub fn replicable(costs: &[u8], board: Board, task: u8) -> bool
+    ensures { λ r. ⌜ r ≡ replicableOf (now (costs .entry)) board task ⌝ }
+{
+    replicable_of(costs, board.tasks, board.cores, task)
+}
+
+// The execution time of a task at p cores, in ticks.
+pub fn execution(costs: &[u8], board: Board, task: u8, p: u8) -> u32
+    ensures { λ r. ⌜ r ≡ executionOf (now (costs .entry)) board task p ⌝ }
+{
+    execution_of(costs, board.tasks, board.cores, task, p)
+}
+
+// The internal transfer from a task to the next at p cores, in ticks.
+pub fn internal(costs: &[u8], board: Board, task: u8, p: u8) -> u32
+    ensures { λ r. ⌜ r ≡ internalOf (now (costs .entry)) board task p ⌝ }
+{
+    internal_of(costs, board.tasks, board.cores, task, p)
+}
+
+// The external transfer from a task to the next at s sending and q receiving cores, in ticks.
+pub fn transfer(costs: &[u8], board: Board, task: u8, s: u8, q: u8) -> u32
+    ensures { λ r. ⌜ r ≡ externalOf (pairOf (now (costs .entry)) board task) (board .cores) s q ⌝ }
+{
+    external_of(costs, board.tasks, board.cores, task, s, q)
 }
