@@ -2,7 +2,7 @@
 // them functions with plain parameters that make the struct and pass it on.
 ghost use mathlib.Core.Path.{_≡_};
 ghost use Rattle.records.specs.Costs.{needOf, replicableOf, executionOf, internalOf, pairOf, externalOf};
-ghost use Rattle.records.specs.Held.{boardWith};
+ghost use Rattle.records.specs.Held.{boardWith, Holds};
 use crate::lookup::execution_at;
 use crate::lookup::external_at;
 use crate::lookup::internal_at;
@@ -18,7 +18,7 @@ pub struct Costs<'a> {
 
 // Holds a slice that was read, with the tasks and cores that its board has.
 pub fn hold<'a>(records: &'a [u8], tasks: u8, cores: u8) -> Costs<'a>
-    ensures { λ r. ⌜ (r .records ≡ records .entry) × (r .tasks ≡ tasks) × (r .cores ≡ cores) ⌝ }
+    ensures { λ r. ⌜ Holds (records .entry) tasks cores r ⌝ }
 {
     Costs {
         records,
