@@ -5,8 +5,8 @@ use Prim.Native.Nat.{ℕ, _+_, min}
 use native.Mathlib.Numerals.{add-one}
 use borrow.Author.Tests.{eq-eqb, ne-eqb}
 use Rattle.records.specs.Costs.{readCosts}
+use Rattle.modules.specs.Model.{Chain, chainOf}
 use Rattle.figures.specs.declared.Answer.{Answer}
-use Rattle.figures.specs.Model.{Chain, chainOf}
 use Rattle.figures.specs.Plan.{mostModules, recordOf, modulesOf, responseAt}
 use Rattle.console.specs.Text.{moduleLine, slowestLine, refusedLine, linesOf, moduleLines, reportText}
 

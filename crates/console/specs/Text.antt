@@ -8,9 +8,9 @@ use mathlib.Core.Bool.{cond}
 use lib.ListN.{take}
 use lib.Dec.{ltb, eqb}
 use Rattle.records.specs.Costs.{readCosts}
-use Rattle.figures.specs.declared.Module.{Module}
+use Rattle.modules.specs.declared.Module.{Module}
+use Rattle.modules.specs.Model.{Chain, chainOf}
 use Rattle.figures.specs.declared.Answer.{Answer}
-use Rattle.figures.specs.Model.{Chain, chainOf}
 use Rattle.figures.specs.Plan.{mostModules, recordOf, modulesOf, responseAt}
 use Rattle.console.specs.Room.{numberRoom}
 use Rattle.console.specs.declared.Text.{Text}

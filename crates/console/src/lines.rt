@@ -3,7 +3,7 @@ ghost use mathlib.Core.Path.{_≡_};
 ghost use mathlib.Core.List.{_++_};
 ghost use Prim.Native.Nat.{_+_, _*_, _≤_, min};
 ghost use Rattle.io.specs.Counts.{Counts};
-ghost use Rattle.figures.specs.Model.{chainOf};
+ghost use Rattle.modules.specs.Model.{chainOf};
 ghost use Rattle.figures.specs.Plan.{mostModules};
 ghost use Rattle.console.specs.Text.{textOf, moduleLine, slowestLine, refusedLine, tooLong, moduleLines, reportText};
 ghost use Rattle.console.specs.Room.{room, lineRoom, slowestRoom};
@@ -14,7 +14,7 @@ use crate::words::spaced;
 use crate::words::with_text;
 use figures::Answer;
 use figures::MOST_MODULES;
-use figures::Module;
+use modules::Module;
 use records::Board;
 
 // The text, then a module of response x.

@@ -7,7 +7,7 @@ use native.Mathlib.Omega.{arith}
 use lib.ListN.{length}
 use borrow.Author.Tests.{eq-eqb, le-leb, leb-true, eqb-true}
 use Rattle.records.proofs.Cases.{and-true}
-use Rattle.figures.specs.declared.Module.{Module}
+use Rattle.modules.specs.declared.Module.{Module}
 use Rattle.figures.specs.Rules.{covers}
 
 pub covers-head : (k t : ℕ) (m : Module) (ms : List Module) → covers k t (m ∷ ms) ≡ true

@@ -12,15 +12,15 @@ use lib.ListN.{length, take}
 use Rattle.records.specs.declared.Board.{Board}
 use Rattle.records.specs.Costs.{mostCores, mostValue}
 use Rattle.records.specs.Format.{IsCosts}
-use Rattle.figures.specs.declared.Module.{Module}
+use Rattle.modules.specs.declared.Module.{Module}
+use Rattle.modules.specs.Model.{Chain, chainOf}
 use Rattle.figures.specs.declared.Answer.{Answer}
 use Rattle.figures.specs.declared.Slowest.{Slowest}
-use Rattle.figures.specs.Model.{Chain, chainOf, response, bottleneck}
-use Rattle.figures.specs.Rules.{memoryFits, moduleRules, covers, keepsRules}
+use Rattle.figures.specs.Model.{bottleneck}
+use Rattle.figures.specs.Rules.{covers, keepsRules}
 use Rattle.figures.specs.Plan.{mostModules, planBytes, modulesOf, encodePlan, figuresOf}
 use Rattle.figures.specs.Judge.{shapeFault, judged}
 use Rattle.figures.specs.Claims.{loads, IsBottleneck, chain, Judges, Passes}
-use Rattle.figures.proofs.Amounts as amounts
 use Rattle.figures.proofs.Covering as covering
 use Rattle.figures.proofs.Limits as limits
 use Rattle.figures.proofs.Passing as passing
@@ -85,18 +85,3 @@ encode-decode k w h e = shapes.shape-plan k w h e .1
 
 pub bottleneck-is : (c : Chain) (k t : ℕ) (m : Module) (ms : List Module) → covers k t (m ∷ ms) ≡ true → IsBottleneck (loads c 0 1 (m ∷ ms)) (bottleneck c (m ∷ ms))
 bottleneck-is = tops.bottleneck-is
-
--- ---- dropping tasks at either end of a module never makes its memory, its rules or its response worse
-
-module _ (c : Chain) (first last : ℕ) where
-  pub memory-drop : (from to : ℕ) → first ≤ from → to ≤ last → (p : ℕ) → memoryFits c first last p ≡ true → memoryFits c from to p ≡ true
-  memory-drop = amounts.memory-drop c first last
-
-  pub rules-drop : (from to : ℕ) → first ≤ from → to ≤ last → (r p : ℕ) → moduleRules c first last r p ≡ true → moduleRules c from to r p ≡ true
-  rules-drop = amounts.rules-drop c first last
-
-  pub response-drop-last : (s to r p q : ℕ) → to ≤ last → response c s first to r p 0 ≤ response c s first last r p q
-  response-drop-last s to r p q h = amounts.response-drop-last c s first last to r p q h
-
-  pub response-drop-first : (s from r p q : ℕ) → first ≤ from → response c 0 from last r p q ≤ response c s first last r p q
-  response-drop-first s from r p q h = amounts.response-drop-first c s first last from r p q h

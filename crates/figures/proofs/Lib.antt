@@ -1,15 +1,11 @@
-pub mod Amounts
 pub mod Covering
-pub mod Ends
 pub mod Faults
 pub mod Fractions
 pub mod Laws
-pub mod Left
 pub mod Limits
 pub mod Listed
 pub mod Passing
 pub mod Placing
 pub mod Shapes
-pub mod Sums
 pub mod Tops
 pub mod Turns

@@ -10,13 +10,14 @@ use native.Mathlib.Omega.{arith}
 use Rattle.records.specs.declared.Board.{Board}
 use Rattle.records.specs.Costs.{mostValue}
 use Rattle.records.specs.Format.{IsCosts}
-use Rattle.records.proofs.Laws.{execution-most, internal-most, external-most}
-use Rattle.figures.specs.declared.Module.{Module}
+use Rattle.lookups.proofs.Laws.{execution-most, internal-most, external-most}
+use Rattle.modules.specs.declared.Module.{Module}
+use Rattle.modules.specs.Model.{Chain, chainOf}
+use Rattle.modules.proofs.Amounts.{CostsMost, response-most}
 use Rattle.figures.specs.declared.Slowest.{Slowest}
-use Rattle.figures.specs.Model.{Chain, chainOf, headCores, coresOf, bottleneck}
+use Rattle.figures.specs.Model.{headCores, coresOf, bottleneck}
 use Rattle.figures.specs.Rules.{covers}
 use Rattle.figures.specs.Claims.{loads}
-use Rattle.figures.proofs.Amounts.{CostsMost, response-most}
 use Rattle.figures.proofs.Covering.{covers-head}
 use Rattle.figures.proofs.Tops.{bottleneck-is}
 

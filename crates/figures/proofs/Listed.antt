@@ -11,11 +11,12 @@ use lib.Dec.{ltb}
 use lib.ListN.{length, getD, List·getD-eq-default}
 use borrow.Author.Tests.{lt-ltb, le-ltb}
 use Rattle.records.proofs.Cases.{lt-or-le}
-use Rattle.figures.specs.declared.Module.{Module}
+use Rattle.modules.specs.declared.Module.{Module}
+use Rattle.modules.specs.Model.{Chain, response}
+use Rattle.modules.proofs.Left.{left-some, left-none}
 use Rattle.figures.specs.declared.Slowest.{Slowest}
-use Rattle.figures.specs.Model.{Chain, response, headCores, responses, coresOf, slowerOf, slowestFrom, bottleneck}
+use Rattle.figures.specs.Model.{headCores, responses, coresOf, slowerOf, slowestFrom, bottleneck}
 use Rattle.figures.specs.Plan.{moduleAt, modulesFrom, coresBefore, slownessAt}
-use Rattle.figures.proofs.Left.{left-some, left-none}
 
 pub modules-length : (w : List ℕ) (i n : ℕ) → length (modulesFrom w i n) ≡ n
 unfolding modulesFrom

@@ -12,10 +12,12 @@ use borrow.Author.Tests.{eq-eqb, ne-eqb, le-leb, lt-leb, eqb-true, eqb-false, le
 use Rattle.records.specs.Costs.{readCosts}
 use Rattle.records.proofs.Cases.{true-or-false, and-true}
 use Rattle.records.proofs.Laws.{accepted-ranges}
-use Rattle.figures.specs.declared.Module.{Module}
+use Rattle.modules.specs.declared.Module.{Module}
+use Rattle.modules.specs.Model.{Chain}
+use Rattle.modules.specs.Rules.{moduleRules}
 use Rattle.figures.specs.declared.Answer.{Answer}
-use Rattle.figures.specs.Model.{Chain, coresOf}
-use Rattle.figures.specs.Rules.{moduleRules, covers, eachAllowed, keepsRules}
+use Rattle.figures.specs.Model.{coresOf}
+use Rattle.figures.specs.Rules.{covers, eachAllowed, keepsRules}
 use Rattle.figures.specs.Plan.{mostModules, planBytes, figuresOf}
 use Rattle.figures.specs.Judge.{refusal, shapeFault, firstFailing, copiesTest, memoryTest, judgedPlan, judgedBytes, judged}
 use Rattle.figures.specs.Claims.{RightShape, noModule, AllPass, FailsAt, Readable, chain, plan, Judges, Judges.costs-wrong, Judges.bytes-short, Judges.shape-wrong, Judges.copies-wrong, Judges.memory-wrong, Judges.cores-wrong, Judges.passed, Passes}

@@ -7,7 +7,7 @@ use native.Mathlib.Omega.{arith}
 use lib.ListN.{length, drop}
 use lib.Seq.{sets}
 use borrow.Author.Tests.{lt-ltb, le-leb}
-use Rattle.figures.specs.declared.Module.{Module}
+use Rattle.modules.specs.declared.Module.{Module}
 use Rattle.figures.specs.Plan.{mostModules, planBytes, encode, encodePlan, putModule, putPlan}
 use Rattle.figures.proofs.Shapes.{encode-length}
 

@@ -12,7 +12,7 @@ use lib.Seq.{drop-cons, take-all}
 use lib.Dec.{eqb}
 use borrow.Author.Tests.{eq-eqb, ne-eqb, le-leb, eqb-true, eqb-false, leb-true}
 use Rattle.records.proofs.Cases.{true-or-false, and-true}
-use Rattle.figures.specs.declared.Module.{Module}
+use Rattle.modules.specs.declared.Module.{Module}
 use Rattle.figures.specs.Rules.{covers}
 use Rattle.figures.specs.Plan.{mostModules, planBytes, moduleAt, countFrom, moduleCount, modulesFrom, modulesOf, encode, encodePlan}
 use Rattle.figures.specs.Judge.{isBlank, isModule, blankFault, shapeFault}

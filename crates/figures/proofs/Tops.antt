@@ -10,9 +10,10 @@ use native.Mathlib.Omega.{arith}
 use lib.Dec.{ltb}
 use borrow.Author.Tests.{ltb-true, ltb-false}
 use Rattle.records.proofs.Cases.{true-or-false}
-use Rattle.figures.specs.declared.Module.{Module}
+use Rattle.modules.specs.declared.Module.{Module}
+use Rattle.modules.specs.Model.{Chain}
 use Rattle.figures.specs.declared.Slowest.{Slowest}
-use Rattle.figures.specs.Model.{Chain, responseOf, slowerOf, slowestFrom, bottleneck}
+use Rattle.figures.specs.Model.{responseOf, slowerOf, slowestFrom, bottleneck}
 use Rattle.figures.specs.Rules.{covers}
 use Rattle.figures.specs.Claims.{loads, AtMost, Below, IsBottleneck}
 use Rattle.figures.proofs.Covering.{covers-head}

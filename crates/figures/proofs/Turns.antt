@@ -5,30 +5,10 @@ use mathlib.Core.Bool.{Bool, true, false, not}
 use mathlib.Core.List.{List}
 use Prim.Native.Nat.{ℕ, _+_, _-_, _≤_, _<_}
 use borrow.Author.Tests.{lt-ltb, eq-eqb, ne-eqb, not-true, not-false}
-use Rattle.figures.specs.declared.Module.{Module}
-use Rattle.figures.specs.Model.{Chain}
-use Rattle.figures.specs.Rules.{memoryFits, fewestFrom}
+use Rattle.modules.specs.declared.Module.{Module}
+use Rattle.modules.proofs.Left.{left-some, left-none}
 use Rattle.figures.specs.Plan.{mostModules, moduleAt, recordOf, countFrom, modulesFrom}
 use Rattle.figures.specs.Judge.{isBlank, isModule, blankFault, shapeFault, firstFailing}
-use Rattle.figures.proofs.Left.{left-some, left-none}
-
--- ---- the fewest cores
-
-module _ (c : Chain) (first last p top : ℕ) where
-  pub fewest-here : {t : Bool} → p < top → t ≡ memoryFits c first last (p + 1) → t ≡ true → fewestFrom c first last p (top - p) ≡ p + 1
-  unfolding fewestFrom
-  fewest-here h e y = rw (left-some h, ← e, y)
-
-  pub fewest-next : {t : Bool} → p < top → t ≡ memoryFits c first last (p + 1) → t ≡ false
-      → fewestFrom c first last p (top - p) ≡ fewestFrom c first last (p + 1) (top - (p + 1))
-  unfolding fewestFrom
-  fewest-next h e n = rw (left-some h, ← e, n)
-
-  pub fewest-end : top ≤ p → fewestFrom c first last p (top - p) ≡ p + 1
-  unfolding fewestFrom
-  fewest-end h = rw (left-none h)
-
--- ---- the records of plan bytes
 
 -- one of the twelve
 pub record-here : (w : List ℕ) (i : ℕ) → i < mostModules → recordOf w i ≡ moduleAt w i

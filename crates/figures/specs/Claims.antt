@@ -6,10 +6,11 @@ use mathlib.Core.List.{List, [], _∷_, List·Memᴰ}
 use Prim.Native.Nat.{ℕ, zero, suc, _+_, _*_, _≤_, _<_}
 use lib.ListN.{length, getD, take}
 use Rattle.records.specs.Costs.{readCosts}
-use Rattle.figures.specs.declared.Module.{Module}
+use Rattle.modules.specs.declared.Module.{Module}
+use Rattle.modules.specs.Model.{Chain, chainOf}
 use Rattle.figures.specs.declared.Answer.{Answer}
 use Rattle.figures.specs.declared.Slowest.{Slowest}
-use Rattle.figures.specs.Model.{Chain, chainOf, responseOf, coresOf}
+use Rattle.figures.specs.Model.{responseOf, coresOf}
 use Rattle.figures.specs.Rules.{keepsRules}
 use Rattle.figures.specs.Plan.{mostModules, planBytes, moduleAt, modulesOf, encodePlan, figuresOf}
 use Rattle.figures.specs.Judge.{refusal, isBlank, isModule, copiesTest, memoryTest}

@@ -5,10 +5,11 @@ use mathlib.Core.Bool.{Bool, cond, _&&_}
 use lib.ListN.{length}
 use lib.Dec.{leb, eqb}
 use Rattle.records.specs.Costs.{readCosts}
-use Rattle.figures.specs.declared.Module.{Module}
+use Rattle.modules.specs.declared.Module.{Module}
+use Rattle.modules.specs.Model.{Chain, chainOf}
+use Rattle.modules.specs.Rules.{copiesAllowed, memoryFits}
 use Rattle.figures.specs.declared.Answer.{Answer}
-use Rattle.figures.specs.Model.{Chain, chainOf, coresOf}
-use Rattle.figures.specs.Rules.{copiesAllowed, memoryFits}
+use Rattle.figures.specs.Model.{coresOf}
 use Rattle.figures.specs.Plan.{mostModules, planBytes, moduleAt, modulesOf, figuresOf}
 
 -- a refusal has zero figures

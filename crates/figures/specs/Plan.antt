@@ -7,10 +7,11 @@ use mathlib.Core.Bool.{cond, _&&_}
 use lib.ListN.{length, getD, drop}
 use lib.Seq.{sets}
 use lib.Dec.{leb, ltb, eqb}
-use Rattle.figures.specs.declared.Module.{Module}
+use Rattle.modules.specs.declared.Module.{Module}
+use Rattle.modules.specs.Model.{Chain}
 use Rattle.figures.specs.declared.Answer.{Answer}
 use Rattle.figures.specs.declared.Slowest.{Slowest}
-use Rattle.figures.specs.Model.{Chain, responseOf, coresOf, responses, bottleneck}
+use Rattle.figures.specs.Model.{responseOf, coresOf, responses, bottleneck}
 
 -- the most modules of a plan, and the bytes that they take
 abbrev pub mostModules : ℕ

@@ -1,15 +1,10 @@
-// The figures of a plan (document 01, "The chain and the board", "Plan bytes"; source document 000, 2.1 and 2.2): what a
-// module costs, which rules it keeps, and what plan bytes say.
+// The figures of a plan (document 01, "The chain and the board", "Plan bytes"; source document 000, 2.1 and 2.2): what plan bytes
+// say, and what it costs.
 //
-// Whatever lies above takes every cost, test and figure from here. No public function has a `requires`: each answers for
-// all bytes, boards and numbers. A task, a count of copies and a count of cores are one byte each, as in plan bytes.
-mod cost;
+// Whatever lies above takes every figure of a plan from here, and every cost and test of a module from `modules`. No public function
+// has a `requires`: each answers for all bytes, boards and numbers.
 mod plan;
-mod rules;
 
-pub use cost::body;
-pub use cost::response_of;
-pub use cost::transfer;
 pub use plan::cores_used;
 pub use plan::figures;
 pub use plan::module_at;
@@ -18,27 +13,14 @@ pub use plan::put_module;
 pub use plan::put_plan;
 pub use plan::refuse;
 pub use plan::response;
-pub use rules::copies_allowed;
-pub use rules::fewest_cores;
-pub use rules::memory_fits;
-pub use rules::rules_met;
 
 // The most modules of a plan, and the bytes that they take.
 pub const MOST_MODULES: u32 = 12;
 
 pub const PLAN_BYTES: usize = 48;
 
-// A module of a plan: an unbroken run of tasks, first to last, in r copies of p cores each.
-pub struct Module {
-    pub first: u8,
-    pub last: u8,
-    pub copies: u8,
-    pub cores: u8,
-}
-
 // The answer of each service: a refusal's number (0: none) and place, or the plan's count of modules, its cores, and of its
 // bottleneck the number of the module, counted from 1, its response and its copies. A refusal has zero figures.
-#[repr(C)]
 pub struct Answer {
     pub number: u32,
     pub place: u32,

@@ -5,15 +5,16 @@ ghost use mathlib.Core.Bool.{cond};
 ghost use Prim.Native.Nat.{_+_, _-_, _≤_, _<_};
 ghost use lib.Dec.{ltb};
 ghost use lib.ListN.{getD};
-ghost use Rattle.figures.specs.Model.{chainOf, coresOf, slowerOf, bottleneck};
+ghost use Rattle.modules.specs.Model.{chainOf};
+ghost use Rattle.figures.specs.Model.{coresOf, slowerOf, bottleneck};
 ghost use Rattle.figures.specs.Plan.{mostModules, moduleAt, recordOf, coresBefore, moduleCount, modulesFrom, modulesOf, slownessAt, putModule, putPlan, figuresOf, responseAt};
 ghost use Rattle.figures.specs.Judge.{refusal};
 use crate::Answer;
 use crate::MOST_MODULES;
-use crate::Module;
 use crate::PLAN_BYTES;
 use crate::Slowest;
-use crate::cost::response_of;
+use modules::Module;
+use modules::response_of;
 use records::Board;
 
 fn byte_at(plan: &[u8], i: usize) -> u8

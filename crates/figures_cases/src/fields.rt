@@ -6,7 +6,7 @@ use crate::printing::four;
 use crate::printing::number;
 use crate::printing::text;
 use crate::printing::then_four;
-use figures::Module;
+use modules::Module;
 use records::Board;
 
 // Of the modules 0 to 12, of which the last is never there.

@@ -13,7 +13,7 @@ use crate::judging::figures_of;
 use crate::judging::one;
 use crate::judging::show;
 use crate::judging::two;
-use crate::modules::between;
+use crate::of_module::between;
 use crate::printing::number;
 use crate::printing::text;
 use records::Board;

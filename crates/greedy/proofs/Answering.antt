@@ -11,9 +11,10 @@ use borrow.Author.Tests.{eq-eqb, ne-eqb, le-leb, lt-leb, lt-ltb, le-ltb, eqb-tru
 use Rattle.records.specs.Costs.{readCosts}
 use Rattle.records.proofs.Cases.{lt-or-le, true-or-false}
 use Rattle.records.proofs.Laws.{accepted-ranges}
-use Rattle.figures.specs.declared.Module.{Module}
+use Rattle.modules.specs.declared.Module.{Module}
+use Rattle.modules.specs.Model.{Chain}
 use Rattle.figures.specs.declared.Answer.{Answer}
-use Rattle.figures.specs.Model.{Chain, coresOf}
+use Rattle.figures.specs.Model.{coresOf}
 use Rattle.figures.specs.Plan.{mostModules, planBytes, modulesOf, encodePlan, figuresOf}
 use Rattle.figures.specs.Judge.{refusal, judged}
 use Rattle.figures.specs.Claims.{Readable, chain}

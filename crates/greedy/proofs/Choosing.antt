@@ -9,9 +9,10 @@ use native.Mathlib.Omega.{arith}
 use lib.ListN.{length, getD, set}
 use borrow.Author.Tests.{lt-ltb, le-ltb}
 use Rattle.records.proofs.Cases.{true-not-false, lt-or-le}
-use Rattle.figures.specs.declared.Module.{Module}
+use Rattle.modules.specs.declared.Module.{Module}
+use Rattle.modules.specs.Model.{Chain}
 use Rattle.figures.specs.declared.Slowest.{Slowest}
-use Rattle.figures.specs.Model.{Chain, coresOf, bottleneck}
+use Rattle.figures.specs.Model.{coresOf, bottleneck}
 use Rattle.figures.specs.Rules.{covers}
 use Rattle.figures.specs.Plan.{mostModules, modulesOf}
 use Rattle.figures.specs.Claims.{loads}

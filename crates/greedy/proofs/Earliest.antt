@@ -11,8 +11,8 @@ use lib.Dec.{ltb}
 use lib.Seq.{append-snoc}
 use borrow.Author.Tests.{ltb-true, ltb-false}
 use Rattle.records.proofs.Cases.{true-or-false}
-use Rattle.figures.specs.declared.Module.{Module}
-use Rattle.figures.specs.Model.{Chain}
+use Rattle.modules.specs.declared.Module.{Module}
+use Rattle.modules.specs.Model.{Chain}
 use Rattle.greedy.specs.Greedy.{time, better, IsEarliest}
 
 module _ (c : Chain) where

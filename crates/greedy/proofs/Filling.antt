@@ -6,13 +6,14 @@ use native.Mathlib.Numerals.{add-one}
 use native.Mathlib.Omega.{arith}
 use lib.ListN.{length, take, drop, take-append-drop}
 use lib.Seq.{length-take-le}
-use Rattle.figures.specs.declared.Module.{Module}
-use Rattle.figures.specs.Model.{Chain, coresOf}
-use Rattle.figures.specs.Rules.{fewestCores}
+use Rattle.modules.specs.declared.Module.{Module}
+use Rattle.modules.specs.Model.{Chain}
+use Rattle.modules.specs.Rules.{fewestCores}
+use Rattle.figures.specs.Model.{coresOf}
 use Rattle.figures.specs.Plan.{mostModules, encodePlan, putModule}
+use Rattle.figures.proofs.Placing.{put-bytes}
 use Rattle.greedy.specs.Greedy.{least, start}
 use Rattle.greedy.specs.Assignment.{lastOf}
-use Rattle.figures.proofs.Placing.{put-bytes}
 use Rattle.greedy.proofs.Starting.{startAt, start-next, start-none, start-all}
 
 -- ---- a list one element after another

@@ -11,9 +11,11 @@ use native.Mathlib.Omega.{arith}
 use lib.ListN.{length}
 use borrow.Author.Tests.{le-leb, leb-true}
 use Rattle.records.proofs.Cases.{true-or-false}
-use Rattle.figures.specs.declared.Module.{Module}
-use Rattle.figures.specs.Model.{Chain, coresOf, gather, nothing}
-use Rattle.figures.specs.Rules.{memoryFits, copiesAllowed, moduleRules, fewestFrom, fewestCores, covers, eachAllowed, keepsRules}
+use Rattle.modules.specs.declared.Module.{Module}
+use Rattle.modules.specs.Model.{Chain, gather, nothing}
+use Rattle.modules.specs.Rules.{memoryFits, copiesAllowed, moduleRules, fewestFrom, fewestCores}
+use Rattle.figures.specs.Model.{coresOf}
+use Rattle.figures.specs.Rules.{covers, eachAllowed, keepsRules}
 use Rattle.figures.specs.Judge.{copiesTest, memoryTest}
 use Rattle.figures.proofs.Passing.{allowed-head}
 use Rattle.greedy.specs.Greedy.{bit, least, startFrom, start, give, next, visited, greedyPlan}

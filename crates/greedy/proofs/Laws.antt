@@ -7,8 +7,9 @@ use mathlib.Core.Logic.{_↔_}
 use Prim.Native.Nat.{ℕ, _-_, _^_, _≤_, _<_}
 use Rattle.records.specs.declared.Board.{Board}
 use Rattle.records.specs.Format.{IsCosts}
-use Rattle.figures.specs.declared.Module.{Module}
-use Rattle.figures.specs.Model.{Chain, chainOf, coresOf}
+use Rattle.modules.specs.declared.Module.{Module}
+use Rattle.modules.specs.Model.{Chain, chainOf}
+use Rattle.figures.specs.Model.{coresOf}
 use Rattle.figures.specs.Rules.{keepsRules}
 use Rattle.figures.specs.Judge.{refusal, judged}
 use Rattle.figures.specs.Claims.{Readable, chain}

@@ -9,11 +9,12 @@ use native.Mathlib.Omega.{arith}
 use lib.Dec.{leb}
 use borrow.Author.Tests.{le-leb, lt-leb}
 use Rattle.records.proofs.Cases.{true-or-false}
-use Rattle.figures.specs.declared.Module.{Module}
-use Rattle.figures.specs.Model.{Chain}
-use Rattle.figures.specs.Rules.{memoryFits, fewestFrom, fewestCores, covers}
+use Rattle.modules.specs.declared.Module.{Module}
+use Rattle.modules.specs.Model.{Chain}
+use Rattle.modules.specs.Rules.{memoryFits, fewestFrom, fewestCores}
+use Rattle.modules.proofs.Left.{left-some, left-none}
+use Rattle.figures.specs.Rules.{covers}
 use Rattle.figures.proofs.Covering.{covers-cons, covers-nil}
-use Rattle.figures.proofs.Left.{left-some, left-none}
 use Rattle.greedy.specs.Greedy.{bit, least, startFrom, start}
 use Rattle.greedy.specs.Assignment.{lastOf, Single}
 

@@ -4,8 +4,8 @@ use mathlib.Core.Path.{_≡_, refl, ap}
 use mathlib.Core.List.{List, [], _∷_}
 use mathlib.Core.Option.{none, some}
 use Prim.Native.Nat.{ℕ, zero, suc}
-use Rattle.figures.specs.declared.Module.{Module}
-use Rattle.figures.specs.Model.{Chain}
+use Rattle.modules.specs.declared.Module.{Module}
+use Rattle.modules.specs.Model.{Chain}
 use Rattle.greedy.specs.Greedy.{next, better, greedyFrom, visited, IsEarliest}
 use Rattle.greedy.proofs.Earliest.{bestOf, best-earliest}
 

@@ -8,8 +8,9 @@ use Prim.Native.Nat.{ℕ, zero, suc, _+_, _-_, _≤_, _<_}
 use native.Mathlib.Omega.{arith}
 use borrow.Author.Tests.{lt-ltb, le-ltb, not-true, not-false}
 use Rattle.records.specs.Costs.{mostCores}
-use Rattle.figures.specs.declared.Module.{Module}
-use Rattle.figures.specs.Model.{Chain, coresOf}
+use Rattle.modules.specs.declared.Module.{Module}
+use Rattle.modules.specs.Model.{Chain}
+use Rattle.figures.specs.Model.{coresOf}
 use Rattle.figures.specs.Plan.{modulesOf, encodePlan}
 use Rattle.greedy.specs.declared.greedy.Choice.{Choice}
 use Rattle.greedy.specs.Greedy.{time, next, better, greedyFrom}

@@ -4,8 +4,9 @@ use mathlib.Core.Path.{_≡_}
 use mathlib.Core.List.{List, [], _∷_}
 use mathlib.Core.Option.{Option, none, some}
 use mathlib.Core.Bool.{true, cond}
-use Rattle.figures.specs.declared.Module.{Module}
-use Rattle.figures.specs.Model.{Chain, coresOf}
+use Rattle.modules.specs.declared.Module.{Module}
+use Rattle.modules.specs.Model.{Chain}
+use Rattle.figures.specs.Model.{coresOf}
 use Rattle.figures.specs.Rules.{covers}
 use Rattle.figures.specs.Plan.{modulesOf, encodePlan}
 use Rattle.greedy.specs.declared.greedy.Choice.{Choice}

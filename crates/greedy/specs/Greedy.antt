@@ -8,10 +8,11 @@ use mathlib.Core.Bool.{Bool, cond, _&&_}
 use lib.ListN.{length, drop}
 use lib.Dec.{ltb, leb, eqb}
 use Rattle.records.specs.Costs.{readCosts}
-use Rattle.figures.specs.declared.Module.{Module}
+use Rattle.modules.specs.declared.Module.{Module}
+use Rattle.modules.specs.Model.{Chain, chainOf}
+use Rattle.modules.specs.Rules.{fewestCores}
 use Rattle.figures.specs.declared.Answer.{Answer}
-use Rattle.figures.specs.Model.{Chain, chainOf, coresOf, bottleneck}
-use Rattle.figures.specs.Rules.{fewestCores}
+use Rattle.figures.specs.Model.{coresOf, bottleneck}
 use Rattle.figures.specs.Plan.{planBytes, encodePlan, figuresOf}
 use Rattle.figures.specs.Judge.{refusal}
 

@@ -3,15 +3,16 @@ ghost use mathlib.Core.Path.{_≡_};
 ghost use mathlib.Core.List.{[]};
 ghost use Prim.Native.Nat.{_+_, _-_, _*_, _^_, _≤_, _<_};
 ghost use lib.ListN.{length, getD, set};
-ghost use Rattle.figures.specs.Model.{chainOf, coresOf};
+ghost use Rattle.modules.specs.Model.{chainOf};
+ghost use Rattle.figures.specs.Model.{coresOf};
 ghost use Rattle.figures.specs.Plan.{planBytes, modulesOf, encodePlan};
 ghost use Rattle.greedy.specs.Greedy.{bit, start, time, consider as considering, next, greedyFrom, greedyOn, greedyBytesOn, greedyAnswer, greedyBytes};
 ghost use Rattle.greedy.specs.Assignment.{lastOf, Assigned, choiceOf, Chosen};
 use figures::Answer;
-use figures::Module;
 use figures::PLAN_BYTES;
 use figures::put_plan;
 use figures::refuse;
+use modules::Module;
 use records::Board;
 
 // The best candidate so far for one core more: whether there is one, its bottleneck and its assignment.
@@ -61,7 +62,7 @@ fn put_start(costs: &[u8], board: Board, grouping: u16, plan: &mut [u8]) -> u32
     let mut first: u8 = 1;
     while first <= k {
         let last = group_last(grouping, first, k);
-        let fewest = figures::fewest_cores(costs, board, first, last);
+        let fewest = modules::fewest_cores(costs, board, first, last);
         let cores = fewest as u8;
         let m = Module {
             first,

@@ -1,19 +1,19 @@
 // Judge: costs and plan bytes; the first refusal that is due, or the plan's figures.
 ghost use mathlib.Core.Path.{_≡_};
 ghost use Prim.Native.Nat.{_-_, _≤_};
-ghost use Rattle.figures.specs.Model.{chainOf};
+ghost use Rattle.modules.specs.Model.{chainOf};
 ghost use Rattle.figures.specs.Plan.{mostModules, modulesFrom, modulesOf};
 ghost use Rattle.figures.specs.Judge.{isBlank, isModule, blankFault, shapeFault, firstFailing, copiesTest, memoryTest, judgedPlan, judgedBytes, judged};
 use figures::Answer;
 use figures::MOST_MODULES;
-use figures::Module;
 use figures::PLAN_BYTES;
-use figures::copies_allowed;
 use figures::cores_used;
-use figures::memory_fits;
 use figures::module_at;
 use figures::module_count;
 use figures::refuse;
+use modules::Module;
+use modules::copies_allowed;
+use modules::memory_fits;
 use records::Board;
 
 // Whether a record is all 0.

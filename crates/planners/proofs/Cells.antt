@@ -11,9 +11,9 @@ use lib.ListN.{length, set, length-set}
 use lib.Dec.{T, leb, leb→le, le→leb, not-T}
 use Rattle.records.specs.declared.Board.{Board}
 use Rattle.records.proofs.Cases.{true-not-false, false-unless}
-use Rattle.figures.specs.Model.{Chain, response, transfer, body}
-use Rattle.figures.specs.Rules.{moduleRules, copiesAllowed, memoryFits}
-use Rattle.figures.proofs.Laws.{memory-drop}
+use Rattle.modules.specs.Model.{Chain, response, transfer, body}
+use Rattle.modules.specs.Rules.{moduleRules, copiesAllowed, memoryFits}
+use Rattle.modules.proofs.Laws.{memory-drop}
 use Rattle.search.specs.Least.{pick, lesser, least}
 use Rattle.search.specs.Copies.{loadOf, fewest}
 use Rattle.search.specs.Plan.{cap}

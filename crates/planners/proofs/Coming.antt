@@ -8,8 +8,8 @@ use Prim.Native.Nat.{ℕ, suc, _≤_, _<_}
 use native.Mathlib.Omega.{arith}
 use lib.Dec.{T}
 use Rattle.records.proofs.Cases.{lt-or-le, false-unless, true-not-false}
-use Rattle.figures.specs.declared.Module.{Module}
-use Rattle.figures.specs.Model.{Chain}
+use Rattle.modules.specs.declared.Module.{Module}
+use Rattle.modules.specs.Model.{Chain}
 use Rattle.search.specs.Find.{find}
 use Rattle.search.specs.Walk.{goesOn, choice, chosen}
 use Rattle.search.specs.Best.{fitsAt, tableAt}

@@ -7,8 +7,8 @@ use lib.Dec.{leb}
 use borrow.Author.Tests.{lt-ltb, le-leb, ltb-true, leb-true, not-true, not-false}
 use Rattle.records.proofs.Cases as cases
 use Rattle.records.proofs.Cases.{false-unless, true-not-false}
-use Rattle.figures.specs.Model.{Chain, response}
-use Rattle.figures.specs.Rules.{moduleRules}
+use Rattle.modules.specs.Model.{Chain, response}
+use Rattle.modules.specs.Rules.{moduleRules}
 use Rattle.search.specs.Best.{fitsAt}
 use Rattle.planners.specs.Search.{grain, problem}
 

@@ -10,16 +10,18 @@ use native.Mathlib.Nat.{le-refl, le-antisymm}
 use native.Mathlib.Omega.{arith}
 use lib.Dec.{T, ltb, leb, eqb, ltb→lt, lt→ltb, leb→le, le→leb, eqb→eq}
 use borrow.Author.Tests.{le-leb}
-use Rattle.figures.specs.declared.Module.{Module}
+use Rattle.records.proofs.Cases.{and-true}
+use Rattle.modules.specs.declared.Module.{Module}
+use Rattle.modules.specs.Model.{Chain, response}
+use Rattle.modules.specs.Rules.{moduleRules}
 use Rattle.figures.specs.declared.Slowest.{Slowest}
-use Rattle.figures.specs.Model.{Chain, response, responseOf, headCores, coresOf, bottleneck}
-use Rattle.figures.specs.Rules.{moduleRules, covers, eachAllowed, keepsRules}
+use Rattle.figures.specs.Model.{responseOf, headCores, coresOf, bottleneck}
+use Rattle.figures.specs.Rules.{covers, eachAllowed, keepsRules}
 use Rattle.figures.specs.Claims.{loads}
 use Rattle.figures.proofs.Covering.{covers-head, covers-cons, covers-end, covers-nil}
 use Rattle.figures.proofs.Fractions.{le-le, le-lt, lt-le}
 use Rattle.figures.proofs.Passing.{keeps-parts}
 use Rattle.figures.proofs.Tops.{bottleneck-is}
-use Rattle.records.proofs.Cases.{and-true}
 use Rattle.search.specs.Plan.{Problem, valid}
 use Rattle.search.specs.Fraction as fraction
 use Rattle.search.specs.Bottleneck as abstract

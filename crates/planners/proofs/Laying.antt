@@ -8,10 +8,11 @@ use native.Mathlib.Omega.{arith}
 use lib.ListN.{length, length-append}
 use lib.Dec.{T, ltb, ltb→lt}
 use borrow.Author.Tests.{ne-eqb}
-use Rattle.figures.specs.declared.Module.{Module}
-use Rattle.figures.specs.Model.{Chain}
+use Rattle.modules.specs.declared.Module.{Module}
+use Rattle.modules.specs.Model.{Chain}
 use Rattle.figures.specs.Plan.{mostModules, encodePlan, putModule}
 use Rattle.figures.proofs.Shapes.{encode-length}
+use Rattle.figures.proofs.Placing.{put-bytes}
 use Rattle.search.specs.Least.{pick}
 use Rattle.search.specs.Find.{find}
 use Rattle.search.specs.Walk.{goesOn, choice, chosen, roomAfter}
@@ -23,7 +24,6 @@ use Rattle.search.proofs.Find.{some-e}
 use Rattle.search.proofs.Steps.{walking-start, walking-end, chosen-bounds, chosen-passes, walking-next}
 use Rattle.planners.specs.declared.path.Passed.{Passed}
 use Rattle.planners.specs.Search.{problem, roomOf, SomeNext}
-use Rattle.figures.proofs.Placing.{put-bytes}
 use Rattle.planners.proofs.Cells.{chain-cap}
 use Rattle.planners.proofs.Coming.{read-choice}
 use Rattle.planners.proofs.Instance.{problem-laws}

@@ -12,9 +12,10 @@ use lib.Dec.{T}
 use Rattle.records.specs.declared.Board.{Board}
 use Rattle.records.specs.Costs.{mostValue}
 use Rattle.records.specs.Format.{IsCosts}
-use Rattle.figures.specs.declared.Module.{Module}
+use Rattle.modules.specs.declared.Module.{Module}
+use Rattle.modules.specs.Model.{Chain, chainOf}
 use Rattle.figures.specs.declared.Slowest.{Slowest}
-use Rattle.figures.specs.Model.{Chain, chainOf, headCores, responseOf, bottleneck}
+use Rattle.figures.specs.Model.{headCores, responseOf, bottleneck}
 use Rattle.figures.specs.Rules.{keepsRules}
 use Rattle.figures.specs.Claims.{loads}
 use Rattle.figures.proofs.Limits.{loads-most, costs-most}

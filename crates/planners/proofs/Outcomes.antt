@@ -13,9 +13,9 @@ use Rattle.records.specs.Costs.{readCosts}
 use Rattle.records.specs.Format.{IsCosts}
 use Rattle.records.proofs.Cases.{and-true}
 use Rattle.records.proofs.Laws.{accepted-costs}
-use Rattle.figures.specs.declared.Module.{Module}
+use Rattle.modules.specs.declared.Module.{Module}
+use Rattle.modules.specs.Model.{Chain, chainOf}
 use Rattle.figures.specs.declared.Answer.{Answer}
-use Rattle.figures.specs.Model.{Chain, chainOf}
 use Rattle.figures.specs.Rules.{keepsRules}
 use Rattle.figures.specs.Plan.{mostModules, planBytes, encodePlan, figuresOf}
 use Rattle.figures.specs.Judge.{refusal, judged}

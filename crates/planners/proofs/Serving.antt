@@ -13,8 +13,8 @@ use Rattle.records.specs.declared.Reading.{Reading}
 use Rattle.records.specs.Costs.{readCosts}
 use Rattle.records.specs.Format.{IsCosts}
 use Rattle.records.proofs.Laws.{accepted-costs}
+use Rattle.modules.specs.Model.{chainOf}
 use Rattle.figures.specs.declared.Answer.{Answer}
-use Rattle.figures.specs.Model.{chainOf}
 use Rattle.figures.specs.Plan.{planBytes, modulesOf, encodePlan, figuresOf}
 use Rattle.figures.specs.Judge.{refusal}
 use Rattle.figures.proofs.Passing.{keeps-parts}

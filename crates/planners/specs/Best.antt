@@ -7,9 +7,10 @@ use mathlib.Core.Bool.{Bool, cond, _&&_, _||_}
 use lib.ListN.{length, drop, replicate}
 use lib.Dec.{ltb, leb, eqb}
 use Rattle.records.specs.Costs.{readCosts}
-use Rattle.figures.specs.declared.Module.{Module}
+use Rattle.modules.specs.declared.Module.{Module}
+use Rattle.modules.specs.Model.{Chain, chainOf}
 use Rattle.figures.specs.declared.Answer.{Answer}
-use Rattle.figures.specs.Model.{Chain, chainOf, coresOf, bottleneck}
+use Rattle.figures.specs.Model.{coresOf, bottleneck}
 use Rattle.figures.specs.Rules.{keepsRules}
 use Rattle.figures.specs.Plan.{planBytes, encodePlan, figuresOf}
 use Rattle.figures.specs.Judge.{refusal}

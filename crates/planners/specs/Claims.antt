@@ -6,8 +6,9 @@ use mathlib.Core.List.{List, _++_}
 use mathlib.Core.Logic.{_⊎_}
 use lib.ListN.{drop}
 use Rattle.records.specs.Costs.{readCosts}
-use Rattle.figures.specs.declared.Module.{Module}
-use Rattle.figures.specs.Model.{Chain, chainOf, coresOf, bottleneck}
+use Rattle.modules.specs.declared.Module.{Module}
+use Rattle.modules.specs.Model.{Chain, chainOf}
+use Rattle.figures.specs.Model.{coresOf, bottleneck}
 use Rattle.figures.specs.Rules.{keepsRules}
 use Rattle.figures.specs.Plan.{planBytes, encodePlan, figuresOf, Before}
 use Rattle.figures.specs.Claims.{AtMost, Below}

@@ -6,9 +6,9 @@ use mathlib.Core.Bool.{Bool, true, false, cond}
 use lib.ListN.{length, getD}
 use lib.Dec.{eqb}
 use Rattle.records.specs.declared.Board.{Board}
-use Rattle.figures.specs.declared.Module.{Module}
-use Rattle.figures.specs.Model.{Chain, response, transfer, body}
-use Rattle.figures.specs.Rules.{moduleRules, copiesAllowed, memoryFits}
+use Rattle.modules.specs.declared.Module.{Module}
+use Rattle.modules.specs.Model.{Chain, response, transfer, body}
+use Rattle.modules.specs.Rules.{moduleRules, copiesAllowed, memoryFits}
 use Rattle.search.specs.Least.{pick}
 use Rattle.search.specs.Plan.{Problem}
 use Rattle.search.specs.Walk.{Room, choice}

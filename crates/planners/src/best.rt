@@ -3,7 +3,7 @@ ghost use mathlib.Core.Path.{_≡_};
 ghost use Prim.Native.Nat.{_≤_};
 ghost use lib.ListN.{length, replicate};
 ghost use Rattle.records.specs.Format.{IsCosts};
-ghost use Rattle.figures.specs.Model.{chainOf};
+ghost use Rattle.modules.specs.Model.{chainOf};
 ghost use Rattle.figures.specs.Plan.{planBytes};
 ghost use Rattle.planners.specs.Best.{workWords, bestPlan, foundAnswer, foundBytes, bestAnswer, bestBytes, bestWork};
 use crate::bisect::cores_within;

@@ -2,7 +2,7 @@
 ghost use mathlib.Core.Path.{_≡_};
 ghost use Prim.Native.Nat.{_≤_};
 ghost use lib.ListN.{length};
-ghost use Rattle.figures.specs.Model.{chainOf};
+ghost use Rattle.modules.specs.Model.{chainOf};
 ghost use Rattle.search.specs.Best.{light, fitsAt, Feasible, Bottom};
 ghost use Rattle.search.specs.Flat.{Filled};
 ghost use Rattle.planners.specs.Search.{problem, topThreshold, Holds};

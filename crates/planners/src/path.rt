@@ -2,7 +2,7 @@
 ghost use mathlib.Core.Path.{_≡_};
 ghost use mathlib.Core.List.{[]};
 ghost use Prim.Native.Nat.{_+_, _≤_, _<_};
-ghost use Rattle.figures.specs.Model.{chainOf};
+ghost use Rattle.modules.specs.Model.{chainOf};
 ghost use Rattle.figures.specs.Plan.{encodePlan};
 ghost use Rattle.search.specs.Best.{fitsAt, light, tableAt, plan as planOf};
 ghost use Rattle.search.specs.Flat.{readTable, Filled};
@@ -10,7 +10,7 @@ ghost use Rattle.search.specs.Walk.{choice as choiceOf, chosen, goesOn};
 ghost use Rattle.planners.specs.Search.{problem, topThreshold, Sized, Holds, roomOf, FirstCores, FirstCopies, SomeNext};
 use crate::table::GRAIN;
 use crate::table::read_table;
-use figures::Module;
+use modules::Module;
 use records::Board;
 
 // The module that the walk has passed: in its place, with its copies and cores, and what was left at its cores less its own.
@@ -44,7 +44,7 @@ fn fits_at(costs: &[u8], board: Board, n: u64, s: u8, t: u8, l: u8, r: u8, p: u8
         return false;
     }
     let first = t + 1;
-    if !figures::rules_met(costs, board, first, l, r, p) {
+    if !modules::rules_met(costs, board, first, l, r, p) {
         return false;
     }
     let m = Module {
@@ -53,7 +53,7 @@ fn fits_at(costs: &[u8], board: Board, n: u64, s: u8, t: u8, l: u8, r: u8, p: u8
         copies: r,
         cores: p,
     };
-    let response = figures::response_of(costs, board, s, m, q);
+    let response = modules::response_of(costs, board, s, m, q);
     response * GRAIN <= n * (r as u64)
 }
 

@@ -4,8 +4,8 @@ ghost use mathlib.Core.Path.{_≡_};
 ghost use mathlib.Core.Bool.{true};
 ghost use Prim.Native.Nat.{_+_, _≤_, _<_};
 ghost use lib.ListN.{length};
-ghost use Rattle.figures.specs.Model.{chainOf};
-ghost use Rattle.figures.specs.Rules.{memoryFits};
+ghost use Rattle.modules.specs.Model.{chainOf};
+ghost use Rattle.modules.specs.Rules.{memoryFits};
 ghost use Rattle.search.specs.Least.{lesser as lesserOf};
 ghost use Rattle.search.specs.Copies.{fewest};
 ghost use Rattle.search.specs.Weight.{overCopies, overNext, overLast};
@@ -79,7 +79,7 @@ fn over_copies(
 {
     let cores = board.cores as u32;
     let none = cores + 1;
-    let load = (base + (figures::transfer(costs, board, l, q, q2) as u64)) * GRAIN;
+    let load = (base + (modules::transfer(costs, board, l, q, q2) as u64)) * GRAIN;
     let r = fewest_copies(rep, load, load, n);
     if r < 1 {
         return none;
@@ -101,9 +101,9 @@ fn over_next(costs: &[u8], board: Board, work: &[u32], n: u64, s: u8, t: u8, q: 
     ensures { λ r. ⌜ (r ≡ overNext (problem (chainOf (now (costs .entry)) board)) (fitsAt (problem (chainOf (now (costs .entry)) board)) n)
         (readTable (problem (chainOf (now (costs .entry)) board)) (now (work .entry))) s t q l) × (r ≤ board .cores + 1) ⌝ }
 {
-    let received = figures::transfer(costs, board, t, s, q) as u64;
-    let base = received + figures::body(costs, board, t + 1, l, q);
-    let rep = figures::rules_met(costs, board, t + 1, l, 2, q);
+    let received = modules::transfer(costs, board, t, s, q) as u64;
+    let base = received + modules::body(costs, board, t + 1, l, q);
+    let rep = modules::rules_met(costs, board, t + 1, l, 2, q);
     if l == board.tasks {
         return over_copies(costs, board, work, n, s, t, q, l, 0, base, rep);
     }
@@ -127,7 +127,7 @@ fn over_last(costs: &[u8], board: Board, work: &[u32], n: u64, s: u8, t: u8, q: 
     let mut m = (board.cores as u32) + 1;
     let mut l = t + 1;
     while l <= board.tasks {
-        if !figures::memory_fits(costs, board, t + 1, l, q) {
+        if !modules::memory_fits(costs, board, t + 1, l, q) {
             return m;
         }
         let v = over_next(costs, board, work, n, s, t, q, l);

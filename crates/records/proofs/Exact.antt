@@ -10,11 +10,12 @@ use native.Mathlib.Omega.{arith}
 use lib.ListN.{length, drop}
 use lib.Dec.{eqb, leb}
 use borrow.Author.Tests.{eq-eqb, ne-eqb, le-leb, eqb-true, eqb-false, leb-true}
+use Rattle.fields.specs.Fields.{byteAt, valueAt}
 use Rattle.records.specs.declared.Board.{Board}
 use Rattle.records.specs.declared.Reading.{Reading}
 use Rattle.records.specs.declared.Refusal.{Refusal}
 use Rattle.records.specs.declared.Key.{Key}
-use Rattle.records.specs.Costs.{mostTasks, mostCores, mostValue, byteAt, valueAt, dueKeys, countOf, keyMeets, valueMeets, faultAt, firstFault, accepted, refused, lengthMeets, headMeets, boardOf, boardMeets, readRecords, readHead, readCosts}
+use Rattle.records.specs.Costs.{mostTasks, mostCores, mostValue, dueKeys, countOf, keyMeets, valueMeets, faultAt, firstFault, accepted, refused, lengthMeets, headMeets, boardOf, boardMeets, readRecords, readHead, readCosts}
 use Rattle.records.specs.Format.{Bears, InRange, Whole, Headed, Ranged, Long, dueAt, RightBelow, IsCosts, Framed, Finds, Finds.costs, Finds.length-wrong, Finds.head-wrong, Finds.board-wrong, Finds.count-wrong, Finds.key-wrong, Finds.value-wrong}
 use Rattle.records.proofs.Cases.{true-or-false, true-not-false, false-unless, and-true, or-right, or-unless}
 use Rattle.records.proofs.Listing.{keys-count}

@@ -5,15 +5,13 @@ use mathlib.Core.List.{List}
 use mathlib.Core.Logic.{_↔_}
 use Prim.Native.Nat.{ℕ, _≤_, _<_}
 use lib.ListN.{length, getD}
-use lib.Dec.{eqb}
 use Rattle.records.specs.declared.Board.{Board}
 use Rattle.records.specs.declared.Reading.{Reading}
 use Rattle.records.specs.declared.Key.{Key}
-use Rattle.records.specs.Costs.{mostValue, byteAt, valueAt, key, dueKeys, dueKey, countOf, accepted, readCosts, needOf, replicableOf, executionOf, internalOf, pairOf, externalOf}
-use Rattle.records.specs.Format.{Ranged, Long, IsCosts, Finds, Finds.costs, RecordSays}
+use Rattle.records.specs.Costs.{key, dueKeys, dueKey, countOf, accepted, readCosts}
+use Rattle.records.specs.Format.{Ranged, Long, IsCosts, Finds, Finds.costs}
 use Rattle.records.proofs.Exact as exact
 use Rattle.records.proofs.Listing as listing
-use Rattle.records.proofs.Looked as looked
 
 -- ---- the due keys, for every k and P: as many as stated, the first is the board's, and each later one is the computed one
 
@@ -42,36 +40,3 @@ accepted-costs s = exact.finds-costs s (readCosts s) (exact.reads s)
 
 pub accepted-ranges : (s : List ℕ) → readCosts s .number ≡ 0 → Ranged (readCosts s .board) × Long s (readCosts s .board)
 accepted-ranges s e = let c = accepted-costs s e in (c .ranged, c .long)
-
--- ---- lookups in a board's costs
-
-module _ (s : List ℕ) (b : Board) (c : IsCosts s b) where
-  -- each is what the one record says that bears the key
-  pub need-says : (t : ℕ) → 1 ≤ t → t ≤ b .tasks → RecordSays s b (key 2 t 0 0) (valueAt s) (needOf s b t)
-  need-says = looked.need-says s b c
-
-  pub replicable-says : (t : ℕ) → 1 ≤ t → t ≤ b .tasks → RecordSays s b (key 2 t 0 0) (λ n. eqb (byteAt s n 2) 1) (replicableOf s b t)
-  replicable-says = looked.replicable-says s b c
-
-  pub execution-says : (t p : ℕ) → 1 ≤ t → 1 ≤ p → p ≤ b .cores → t ≤ b .tasks → RecordSays s b (key 3 t p 0) (valueAt s) (executionOf s b t p)
-  execution-says = looked.execution-says s b c
-
-  pub internal-says : (t p : ℕ) → 1 ≤ t → 1 ≤ p → p ≤ b .cores → t < b .tasks → RecordSays s b (key 4 t p 0) (valueAt s) (internalOf s b t p)
-  internal-says = looked.internal-says s b c
-
-  pub external-says : (t : ℕ) → 1 ≤ t → t < b .tasks → (x q : ℕ) → 1 ≤ x → x ≤ b .cores → 1 ≤ q → q ≤ b .cores
-      → RecordSays s b (key 5 t x q) (valueAt s) (externalOf (pairOf s b t) (b .cores) x q)
-  external-says = looked.external-says s b c
-
-  -- and none, at any numbers, is above the most value
-  pub need-most : (t : ℕ) → needOf s b t ≤ mostValue
-  need-most = looked.need-most s b c
-
-  pub execution-most : (t p : ℕ) → executionOf s b t p ≤ mostValue
-  execution-most = looked.execution-most s b c
-
-  pub internal-most : (t p : ℕ) → internalOf s b t p ≤ mostValue
-  internal-most = looked.internal-most s b c
-
-  pub external-most : (t x q : ℕ) → externalOf (pairOf s b t) (b .cores) x q ≤ mostValue
-  external-most = looked.external-most s b c

@@ -1,9 +1,6 @@
 pub mod Bounds
 pub mod Cases
 pub mod Exact
-pub mod Inside
 pub mod Laws
 pub mod Listing
-pub mod Looked
-pub mod Places
 pub mod Walk

@@ -1,10 +1,11 @@
--- Cost records, document 01, "Cost records" and refusals 1 to 6: what reading a file finds, and what a lookup in it is.
+-- Cost records, document 01, "Cost records" and refusals 1 to 6: what reading a file finds.
 -- A file is a list of bytes; records are counted from 0 here and a refusal's place from 1. Assumes nothing.
 use Prim.Native.Nat.{ℕ, zero, suc, _+_, _-_, _*_, _/_, _%_}
 use mathlib.Core.List.{List, [], _∷_, _++_}
 use mathlib.Core.Bool.{Bool, cond, not, _&&_, _||_}
-use lib.ListN.{length, getD, take, drop}
+use lib.ListN.{length, drop}
 use lib.Dec.{ltb, leb, eqb}
+use Rattle.fields.specs.Fields.{byteAt, valueAt}
 use Rattle.records.specs.declared.Board.{Board}
 use Rattle.records.specs.declared.Reading.{Reading}
 use Rattle.records.specs.declared.Refusal.{Refusal}
@@ -19,17 +20,6 @@ mostCores = 32
 
 abbrev pub mostValue : ℕ
 mostValue = 1000000
-
--- the byte at j of record n: 0 kind, 1 task, 2 a, 3 b, 4 to 7 value
-abbrev pub byteAt : List ℕ → ℕ → ℕ → ℕ
-byteAt s n j = getD s (8 * n + j) 0
-
--- the value of the record that starts at byte i, lowest byte first, and of record n
-abbrev pub valueFrom : List ℕ → ℕ → ℕ
-valueFrom s i = getD s (i + 4) 0 + 256 * getD s (i + 5) 0 + 65536 * getD s (i + 6) 0 + 16777216 * getD s (i + 7) 0
-
-unfoldable pub valueAt : List ℕ → ℕ → ℕ
-valueAt s n = valueFrom s (8 * n)
 
 -- ---- the due keys
 
@@ -139,49 +129,3 @@ readHead s = cond (headMeets s) (cond (boardMeets (boardOf s)) (readRecords s (b
 -- what reading the file s finds
 unfoldable pub readCosts : List ℕ → Reading
 readCosts s = cond (lengthMeets s) (readHead s) (refused 1 0)
-
--- ---- lookups, for any numbers and any list
-
--- i is one of 1 to top
-unfoldable pub within : ℕ → ℕ → Bool
-within i top = leb 1 i && leb i top
-
--- task t of k has another after it
-unfoldable pub hasNext : ℕ → ℕ → Bool
-hasNext t k = leb 1 t && ltb t k
-
--- row i, column j of rows of that width, rows and columns counted from 1
-unfoldable pub cellOf : ℕ → ℕ → ℕ → ℕ
-cellOf width i j = (i - 1) * width + (j - 1)
-
--- the memory need of task t; 0 where there is no such task
-unfoldable pub needOf : List ℕ → Board → ℕ → ℕ
-needOf s b t = cond (within t (b .tasks)) (valueAt s t) 0
-
--- task t is there and marked as replicable
-unfoldable pub replicableOf : List ℕ → Board → ℕ → Bool
-replicableOf s b t = within t (b .tasks) && eqb (byteAt s t 2) 1
-
--- the execution time of task t at p cores; 0 where there is no such task or p
-unfoldable pub executionOf : List ℕ → Board → ℕ → ℕ → ℕ
-executionOf s b t p = cond (within t (b .tasks) && within p (b .cores)) (valueAt s (1 + b .tasks + cellOf (b .cores) t p)) 0
-
--- the internal transfer from task t to the next at p cores; 0 where there is no such pair or p
-unfoldable pub internalOf : List ℕ → Board → ℕ → ℕ → ℕ
-internalOf s b t p =
-    cond (hasNext t (b .tasks) && within p (b .cores)) (valueAt s (1 + b .tasks + b .tasks * b .cores + cellOf (b .cores) t p)) 0
-
--- the place of the first kind 5 record of task t
-unfoldable pub pairPlace : ℕ → ℕ → ℕ → ℕ
-pairPlace k p t = 1 + k + k * p + (k - 1) * p + (t - 1) * (p * p)
-
--- the kind 5 records of task t, a part of the file; empty where there is no such pair or the file is too short
-unfoldable pub pairOf : List ℕ → Board → ℕ → List ℕ
-pairOf s b t =
-    let p = b .cores in
-    let start = 8 * pairPlace (b .tasks) p t in
-    cond (hasNext t (b .tasks) && leb (start + 8 * (p * p)) (length s)) (take (8 * (p * p)) (drop start s)) []
-
--- the external transfer at s sending and q receiving cores in a pair's part; 0 where the board has no such s or q
-unfoldable pub externalOf : List ℕ → ℕ → ℕ → ℕ → ℕ
-externalOf part p s q = cond (within s p && within q p) (valueAt part (cellOf p s q)) 0

@@ -4,10 +4,11 @@ use mathlib.Core.Path.{_≡_}
 use mathlib.Core.List.{List}
 use Prim.Native.Nat.{ℕ, _+_, _*_, _%_, _≤_, _<_}
 use lib.ListN.{length, getD}
+use Rattle.fields.specs.Fields.{byteAt, valueAt}
 use Rattle.records.specs.declared.Board.{Board}
 use Rattle.records.specs.declared.Reading.{Reading}
 use Rattle.records.specs.declared.Key.{Key}
-use Rattle.records.specs.Costs.{mostTasks, mostCores, mostValue, byteAt, valueAt, key, dueKeys, countOf, boardOf, accepted, refused}
+use Rattle.records.specs.Costs.{mostTasks, mostCores, mostValue, key, dueKeys, countOf, boardOf, accepted, refused}
 
 -- record n of s has that kind, task, a and b, the flag of kind 2 aside
 pub record Bears (s : List ℕ) (n : ℕ) (d : Key) : Type 0 where
@@ -78,11 +79,3 @@ pub data Finds (s : List ℕ) : Reading → Type 0 where
       → (Bears s n (dueAt (boardOf s) n) → ⊥) → Finds s (refused 5 (n + 1))
   value-wrong : (n : ℕ) → Framed s → 1 ≤ n → n < countOf (boardOf s .tasks) (boardOf s .cores) → RightBelow s (boardOf s) n
       → Bears s n (dueAt (boardOf s) n) → (InRange s n (dueAt (boardOf s) n) → ⊥) → Finds s (refused 6 (n + 1))
-
--- v is what the one record of the board b's costs that bears the key d says, by the reading `of` of a record
-pub record RecordSays (s : List ℕ) (b : Board) (d : Key) {A : Type 0} (of : ℕ → A) (v : A) : Type 0 where
-  pub place : ℕ
-  pub there : place < countOf (b .tasks) (b .cores)
-  pub bears : Bears s place d
-  pub alone : (n : ℕ) → n < countOf (b .tasks) (b .cores) → Bears s n d → n ≡ place
-  pub says : v ≡ of place

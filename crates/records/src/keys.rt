@@ -3,9 +3,9 @@ ghost use mathlib.Core.Path.{_≡_};
 ghost use Prim.Native.Nat.{_≤_};
 ghost use Rattle.records.specs.Costs.{dueKey, keyMeets, valueMeets, faultAt, countOf};
 use crate::Key;
-use crate::bytes::byte_at;
-use crate::bytes::value_at;
-use crate::bytes::wide;
+use fields::byte_at;
+use fields::value_at;
+use fields::wide;
 
 // The most that a value of any kind may be, in KiB or ticks.
 pub(crate) const MOST_VALUE: u32 = 1000000;

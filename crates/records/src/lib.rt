@@ -1,31 +1,13 @@
 // Cost records (document 01, "Cost records"): a board's costs as fixed records of 8 bytes, each a kind, a task, a, b and
 // a value of four bytes, lowest first.
 //
-// `read` says whether a byte string is a board's costs, or which of refusals 1 to 6 is due; the others look one cost up in
-// the caller's bytes. No public function has a `requires`: each answers for every slice and every number.
-// Tasks and cores are counted from 1, in one byte each, so that no place in a file can overflow.
-mod bytes;
-mod held;
+// `read` says whether a byte string is a board's costs, or which of refusals 1 to 6 is due. No public function has a `requires`: each
+// answers for every slice and every number.
 mod keys;
-mod lookup;
 mod scan;
 
-pub use held::Costs;
-pub use held::execution_held;
-pub use held::external_held;
-pub use held::hold;
-pub use held::internal_held;
-pub use held::need_held;
-pub use held::replicable_held;
 pub use keys::count;
 pub use keys::fault;
-pub use lookup::execution;
-pub use lookup::external;
-pub use lookup::internal;
-pub use lookup::need;
-pub use lookup::pair;
-pub use lookup::replicable;
-pub use lookup::transfer;
 pub use scan::read;
 
 // The board of document 01: its k tasks, its P cores and the capacity of a core in KiB.

@@ -6,12 +6,12 @@ ghost use Rattle.records.specs.Costs.{dueKeys, firstFault, boardMeets, r
 use crate::Board;
 use crate::Reading;
 use crate::Refusal;
-use crate::bytes::byte_at;
-use crate::bytes::value_at;
 use crate::keys::MOST_VALUE;
 use crate::keys::count;
 use crate::keys::due;
 use crate::keys::fault;
+use fields::byte_at;
+use fields::value_at;
 
 // The most tasks of a chain and the most cores of a board.
 const MOST_TASKS: u8 = 12;

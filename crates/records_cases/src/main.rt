@@ -228,10 +228,10 @@ fn put_pairs(file: &mut [u8])
 
 fn show_tasks(costs: &[u8], board: Board) {
     text(b"needs");
-    number(records::need(costs, board, 0));
-    number(records::need(costs, board, 1));
-    number(records::need(costs, board, 12));
-    number(records::need(costs, board, 13));
+    number(held::need(costs, board, 0));
+    number(held::need(costs, board, 1));
+    number(held::need(costs, board, 12));
+    number(held::need(costs, board, 13));
     text(b"\n");
 }
 
@@ -245,44 +245,44 @@ fn flag(replicable: bool) {
 
 fn show_flags(costs: &[u8], board: Board) {
     text(b"flags");
-    flag(records::replicable(costs, board, 0));
-    flag(records::replicable(costs, board, 1));
-    flag(records::replicable(costs, board, 12));
-    flag(records::replicable(costs, board, 13));
+    flag(held::replicable(costs, board, 0));
+    flag(held::replicable(costs, board, 1));
+    flag(held::replicable(costs, board, 12));
+    flag(held::replicable(costs, board, 13));
     text(b"\n");
 }
 
 fn show_executions(costs: &[u8], board: Board) {
     text(b"executions");
-    number(records::execution(costs, board, 1, 1));
-    number(records::execution(costs, board, 3, 5));
-    number(records::execution(costs, board, 12, 32));
-    number(records::execution(costs, board, 12, 33));
-    number(records::execution(costs, board, 13, 1));
-    number(records::execution(costs, board, 1, 0));
+    number(held::execution(costs, board, 1, 1));
+    number(held::execution(costs, board, 3, 5));
+    number(held::execution(costs, board, 12, 32));
+    number(held::execution(costs, board, 12, 33));
+    number(held::execution(costs, board, 13, 1));
+    number(held::execution(costs, board, 1, 0));
     text(b"\n");
 }
 
 fn show_internals(costs: &[u8], board: Board) {
     text(b"internals");
-    number(records::internal(costs, board, 1, 1));
-    number(records::internal(costs, board, 2, 9));
-    number(records::internal(costs, board, 11, 32));
-    number(records::internal(costs, board, 12, 1));
-    number(records::internal(costs, board, 0, 1));
+    number(held::internal(costs, board, 1, 1));
+    number(held::internal(costs, board, 2, 9));
+    number(held::internal(costs, board, 11, 32));
+    number(held::internal(costs, board, 12, 1));
+    number(held::internal(costs, board, 0, 1));
     text(b"\n");
 }
 
 // The length of a pair's part, and three external transfers in it.
 fn show_pair(costs: &[u8], board: Board, task: u8) {
-    let part = records::pair(costs, board, task);
+    let part = lookups::pair(costs, board, task);
     text(b"pair");
     number((part.len() % 65536) as u32);
-    number(records::external(part, board.cores, 1, 1));
-    number(records::external(part, board.cores, 3, 7));
-    number(records::external(part, board.cores, 32, 32));
-    number(records::external(part, board.cores, 33, 1));
-    number(records::external(part, board.cores, 1, 0));
+    number(lookups::external(part, board.cores, 1, 1));
+    number(lookups::external(part, board.cores, 3, 7));
+    number(lookups::external(part, board.cores, 32, 32));
+    number(lookups::external(part, board.cores, 33, 1));
+    number(lookups::external(part, board.cores, 1, 0));
     text(b"\n");
 }
 

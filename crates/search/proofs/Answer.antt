@@ -9,7 +9,7 @@ use mathlib.Core.List.{List}
 use mathlib.Core.Option.{none, some}
 use lib.Dec.{T, leb, leb→le, le→leb, ltb, ltb→lt, lt→ltb, nltb→le, not-T}
 use Rattle.records.proofs.Cases.{lt-or-le}
-use Rattle.figures.specs.declared.Module.{Module}
+use Rattle.modules.specs.declared.Module.{Module}
 use Rattle.figures.specs.Model.{coresOf}
 use Rattle.search.specs.Plan.{Problem, valid, cap}
 use Rattle.search.specs.Bottleneck.{rules, planBottleneck, Keeps, Small}

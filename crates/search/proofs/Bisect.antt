@@ -7,7 +7,7 @@ use mathlib.Core.Path.{_≡_}
 use mathlib.Core.Logic.{inl, inr}
 use mathlib.Core.List.{List}
 use Rattle.records.proofs.Cases.{lt-or-le}
-use Rattle.figures.specs.declared.Module.{Module}
+use Rattle.modules.specs.declared.Module.{Module}
 use Rattle.search.specs.Plan.{Problem, cap}
 use Rattle.search.specs.Fraction.{Under}
 use Rattle.search.specs.Bottleneck.{planBottleneck, Keeps}

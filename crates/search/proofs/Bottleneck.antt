@@ -6,7 +6,7 @@ use native.Mathlib.Nat.{le-refl, le-trans, le-antisymm, mul-le-mul}
 use mathlib.Core.Path.{_≡_}
 use mathlib.Core.List.{List, [], _∷_}
 use lib.Dec.{T, leb, leb→le, le→leb, ltb→lt}
-use Rattle.figures.specs.declared.Module.{Module}
+use Rattle.modules.specs.declared.Module.{Module}
 use Rattle.figures.specs.Model.{headCores, coresOf}
 use Rattle.search.specs.Plan.{Problem, valid}
 use Rattle.search.specs.Fraction.{AtMost, Below, Same, Under}

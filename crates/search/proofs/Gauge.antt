@@ -4,7 +4,7 @@ use native.Mathlib.Nat.{le-refl}
 use mathlib.Core.Path.{_≡_, refl}
 use mathlib.Core.List.{List, [], _∷_}
 use lib.Dec.{T}
-use Rattle.figures.specs.declared.Module.{Module}
+use Rattle.modules.specs.declared.Module.{Module}
 use Rattle.search.specs.Plan.{Problem, valid}
 use Rattle.search.specs.Fraction.{Frac, AtMost}
 use Rattle.search.specs.Bottleneck.{rules, bottleneck, planBottleneck}

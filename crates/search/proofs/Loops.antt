@@ -9,7 +9,7 @@ use mathlib.Core.Logic.{inl, inr}
 use mathlib.Core.List.{List, [], _∷_}
 use lib.Dec.{T, ltb, eqb→eq, eqb-refl, T-not, not-T}
 use Rattle.records.proofs.Cases.{lt-or-le}
-use Rattle.figures.specs.declared.Module.{Module}
+use Rattle.modules.specs.declared.Module.{Module}
 use Rattle.figures.specs.Model.{headCores}
 use Rattle.search.specs.Least.{lesser, least}
 use Rattle.search.specs.Find.{find, some}

@@ -7,7 +7,7 @@ use mathlib.Core.Bool.{Bool, _&&_}
 use mathlib.Core.Logic.{inl, inr}
 use mathlib.Core.List.{List, [], _∷_}
 use lib.Dec.{T, ltb, ltb→lt, lt→ltb, eqb, eqb→eq}
-use Rattle.figures.specs.declared.Module.{Module}
+use Rattle.modules.specs.declared.Module.{Module}
 use Rattle.figures.specs.Plan.{ModuleBefore, Before}
 use Rattle.search.specs.Fraction.{Frac, AtMost}
 use Rattle.search.specs.Order.{Beats, lowerOr}

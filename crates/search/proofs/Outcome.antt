@@ -6,7 +6,7 @@ use mathlib.Core.Path.{refl, ap}
 use mathlib.Core.List.{List}
 use mathlib.Core.Option.{Option, none, some}
 use lib.Dec.{ltb→lt, nltb→le}
-use Rattle.figures.specs.declared.Module.{Module}
+use Rattle.modules.specs.declared.Module.{Module}
 use Rattle.search.specs.Plan.{Problem, cap}
 use Rattle.search.specs.Fraction.{Frac, AtMost, plus}
 use Rattle.search.specs.Bottleneck.{planBottleneck, Keeps, Small}

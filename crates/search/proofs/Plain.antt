@@ -7,7 +7,7 @@ use mathlib.Core.Path.{_≡_, refl, _∙_}
 use mathlib.Core.List.{List, [], _∷_}
 use mathlib.Core.Option.{Option}
 use lib.Dec.{ltb, ltb→lt, lt→ltb}
-use Rattle.figures.specs.declared.Module.{Module}
+use Rattle.modules.specs.declared.Module.{Module}
 use Rattle.figures.specs.Model.{headCores, coresOf}
 use Rattle.search.specs.Plan.{Problem, weight, cap}
 use Rattle.search.specs.Bottleneck.{planBottleneck, Keeps, Small}

@@ -7,7 +7,7 @@ use mathlib.Core.Path.{_≡_, refl, sym}
 use mathlib.Core.Bool.{Bool, _&&_}
 use mathlib.Core.List.{List, [], _∷_}
 use lib.Dec.{T, leb, leb→le, le→leb, eqb, eqb→eq}
-use Rattle.figures.specs.declared.Module.{Module}
+use Rattle.modules.specs.declared.Module.{Module}
 use Rattle.figures.specs.Model.{headCores, coresOf}
 use Rattle.search.specs.Plan.{Rule, Problem, moduleAfter, of, valid, tight, weight, cap, Priced}
 use Rattle.search.proofs.Tests.{and-l, and-r, and-i, eq→eqb}

@@ -8,7 +8,7 @@ use mathlib.Core.Bool.{not}
 use mathlib.Core.Logic.{_⊎_, inl, inr}
 use mathlib.Core.List.{List, [], _∷_}
 use lib.Dec.{T, ltb, ltb→lt, lt→ltb, eqb, eqb→eq, T-not}
-use Rattle.figures.specs.declared.Module.{Module}
+use Rattle.modules.specs.declared.Module.{Module}
 use Rattle.figures.specs.Model.{headCores}
 use Rattle.figures.specs.Plan.{ModuleBefore, Before}
 use Rattle.search.specs.Find.{find}

@@ -9,7 +9,7 @@ use mathlib.Core.Logic.{inl, inr}
 use mathlib.Core.List.{List, [], _∷_}
 use lib.Dec.{T, eqb, eqb→eq}
 use Rattle.records.proofs.Cases.{lt-or-le}
-use Rattle.figures.specs.declared.Module.{Module}
+use Rattle.modules.specs.declared.Module.{Module}
 use Rattle.figures.specs.Model.{headCores, coresOf}
 use Rattle.search.specs.Least.{lesser}
 use Rattle.search.specs.Plan.{Rule, Problem, moduleAfter, valid, weight, cap, Priced}

@@ -5,7 +5,7 @@ use mathlib.Core.Logic.{_⊎_}
 use mathlib.Core.List.{List}
 use mathlib.Core.Option.{Option, none, some}
 use lib.Dec.{T, ltb}
-use Rattle.figures.specs.declared.Module.{Module}
+use Rattle.modules.specs.declared.Module.{Module}
 use Rattle.search.specs.Find.{find}
 use Rattle.search.specs.Plan.{Problem, cap}
 use Rattle.search.specs.Fraction.{Frac, Below, Same}

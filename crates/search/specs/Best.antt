@@ -1,7 +1,7 @@
 -- The plan of a threshold: the first in module order of the lightest plans within it. Assumes nothing.
 use Prim.Native.Nat.{ℕ, zero, suc, _*_, _≤_, _<_}
 use mathlib.Core.List.{List}
-use Rattle.figures.specs.declared.Module.{Module}
+use Rattle.modules.specs.declared.Module.{Module}
 use Rattle.figures.specs.Model.{coresOf}
 use Rattle.search.specs.Least.{least}
 use Rattle.search.specs.Plan.{Rule, Problem, weight, cap, tight, Priced}

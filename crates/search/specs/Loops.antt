@@ -2,7 +2,7 @@
 use Prim.Native.Nat.{ℕ, _+_, _*_, _≤_}
 use mathlib.Core.Path.{_≡_}
 use mathlib.Core.List.{List, _++_}
-use Rattle.figures.specs.declared.Module.{Module}
+use Rattle.modules.specs.declared.Module.{Module}
 use Rattle.search.specs.Copies.{ceil}
 use Rattle.search.specs.Plan.{Problem, cap}
 use Rattle.search.specs.Bottleneck.{planBottleneck}

@@ -4,7 +4,7 @@ use Prim.Native.Nat.{ℕ}
 use mathlib.Core.Path.{_≡_}
 use mathlib.Core.List.{List}
 use mathlib.Core.Option.{Option, none, some}
-use Rattle.figures.specs.declared.Module.{Module}
+use Rattle.modules.specs.declared.Module.{Module}
 use Rattle.search.specs.Plan.{Problem}
 use Rattle.search.specs.Fraction.{Frac, AtMost, plus}
 use Rattle.search.specs.Bottleneck.{Keeps, planBottleneck}

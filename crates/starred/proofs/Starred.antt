@@ -1,13 +1,17 @@
 -- The starred examples of document 01, computed: what each case says comes of the definitions. Assumes nothing.
 use mathlib.Core.Path.{refl}
-use Rattle.records.specs.Costs.{valueAt, eachFrom, joinFrom, dueKeys, countOf, keyMeets, valueMeets, faultAt, firstFault, lengthMeets, headMeets, boardMeets, readRecords, readHead, readCosts, within, hasNext, cellOf, needOf, replicableOf, executionOf, internalOf, pairPlace, pairOf, externalOf}
-use Rattle.figures.specs.Model.{run, gather, body, transfer, response, coresOf, slowerOf, slowestFrom, bottleneck}
-use Rattle.figures.specs.Rules.{memoryFits, copiesAllowed, moduleRules, fewestFrom, fewestCores, covers, eachAllowed, keepsRules}
+use Rattle.fields.specs.Fields.{valueAt}
+use Rattle.records.specs.Costs.{eachFrom, joinFrom, dueKeys, countOf, keyMeets, valueMeets, faultAt, firstFault, lengthMeets, headMeets, boardMeets, readRecords, readHead, readCosts}
+use Rattle.lookups.specs.Lookups.{within, hasNext, cellOf, needOf, replicableOf, executionOf, internalOf, pairPlace, pairOf, externalOf}
+use Rattle.modules.specs.Model.{run, gather, body, transfer, response}
+use Rattle.modules.specs.Rules.{memoryFits, copiesAllowed, moduleRules, fewestFrom, fewestCores}
+use Rattle.figures.specs.Model.{coresOf, slowerOf, slowestFrom, bottleneck}
+use Rattle.figures.specs.Rules.{covers, eachAllowed, keepsRules}
 use Rattle.figures.specs.Plan.{countFrom, moduleCount, modulesFrom, modulesOf, encode, figuresOf}
 use Rattle.figures.specs.Judge.{isBlank, isModule, blankFault, shapeFault, firstFailing, judgedPlan, judgedBytes, judged}
+use Rattle.greedy.specs.Greedy.{bit, startFrom, start, give, mayTake, consider, predecessor, next, greedyFrom, greedyPlan, greedyOn, greedyAnswer, greedyBytes}
 use Rattle.search.specs.Every.{inTurn, every, scan}
 use Rattle.planners.specs.Best.{isBetter, bestPlan, foundAnswer, foundBytes, begins, bestAnswer, bestBytes}
-use Rattle.greedy.specs.Greedy.{bit, startFrom, start, give, mayTake, consider, predecessor, next, greedyFrom, greedyPlan, greedyOn, greedyAnswer, greedyBytes}
 use Rattle.starred.specs.Dock.{smallDock, fixedDock, dockOf, zeroed, idleDock}
 use Rattle.starred.specs.Cases.{Each, lent, words, starred}
 

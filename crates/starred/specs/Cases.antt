@@ -6,8 +6,8 @@ use mathlib.Core.List.{List, [], _∷_}
 use lib.ListN.{replicate}
 use Rattle.figures.specs.declared.Answer.{Answer}
 use Rattle.figures.specs.Judge.{refusal, judged}
-use Rattle.planners.specs.Best.{workWords, bestAnswer, bestBytes}
 use Rattle.greedy.specs.Greedy.{greedyAnswer, greedyBytes}
+use Rattle.planners.specs.Best.{workWords, bestAnswer, bestBytes}
 use Rattle.starred.specs.Dock.{smallDock, fixedDock, dockOf, idleDock}
 
 -- ---- what is lent, and what is answered

@@ -18,8 +18,8 @@ use Rattle.figures.proofs.Laws.{judge-exactly, judge-passes, judge-figures, pla
 use Rattle.greedy.specs.Greedy.{start, greedyOn, greedyAnswer, greedyBytes}
 use Rattle.greedy.proofs.Laws.{greedy-judged}
 use Rattle.planners.specs.Best.{workWords, begins, bestAnswer, bestBytes}
-use Rattle.zombreki.specs.Exported.{words}
 use Rattle.planners.proofs.Outcomes.{Outcome, Outcome.no-plan, Outcome.plan, outcome, answer-is, judge-agrees}
+use Rattle.zombreki.specs.Exported.{words}
 
 pub record Small (a : Answer) : Type 0 where
   pub few : a .response ≤ 23000000

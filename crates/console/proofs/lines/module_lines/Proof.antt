@@ -3,7 +3,7 @@ use mathlib.Core.Path.{_≡_, sym, _∙_}
 use Prim.Native.Nat.{_-_, _*_, _≤_}
 use native.Mathlib.Omega.{arith}
 use borrow.Author.Needs.{needs}
-use Rattle.figures.specs.Model.{chainOf}
+use Rattle.modules.specs.Model.{chainOf}
 use Rattle.console.specs.Text.{textOf, moduleLines}
 use Rattle.console.specs.Room.{lineRoom}
 use Rattle.console.proofs.Reported.{lines-none, lines-more}

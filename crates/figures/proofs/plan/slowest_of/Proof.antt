@@ -2,7 +2,8 @@
 use mathlib.Core.Path.{_≡_, sym, _∙_}
 use Prim.Native.Nat.{_+_, _-_, _≤_, _<_}
 use native.Mathlib.Omega.{arith}
-use Rattle.figures.specs.Model.{chainOf, slowestFrom, bottleneck}
+use Rattle.modules.specs.Model.{chainOf}
+use Rattle.figures.specs.Model.{slowestFrom, bottleneck}
 use Rattle.figures.specs.Plan.{modulesFrom, coresBefore}
 use Rattle.figures.proofs.Listed.{slowest-start, slowest-next, slowest-end, slower-keeps}
 use Rattle.figures.proofs.plan.slowest_of.Statement.{statement}

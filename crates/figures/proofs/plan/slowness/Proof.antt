@@ -1,6 +1,6 @@
 -- `slowness` is `slownessAt`: the cores of the module after the i-th are those of the first of the rest.
 use native.Mathlib.Omega.{arith}
-use Rattle.figures.specs.Model.{chainOf}
+use Rattle.modules.specs.Model.{chainOf}
 use Rattle.figures.proofs.Listed.{slowness-made}
 use borrow.Author.Needs.{needs}
 use Rattle.figures.proofs.plan.slowness.Statement.{statement}

@@ -2,7 +2,8 @@
 use mathlib.Core.Path.{_≡_, refl, sym, ap, _∙_}
 use native.Mathlib.Omega.{arith}
 use borrow.Author.Needs.{needs}
-use Rattle.figures.specs.Model.{Chain, chainOf, coresOf}
+use Rattle.modules.specs.Model.{Chain, chainOf}
+use Rattle.figures.specs.Model.{coresOf}
 use Rattle.figures.specs.Plan.{encode, modulesOf}
 use Rattle.figures.proofs.Placing.{put-room}
 use Rattle.greedy.specs.Greedy.{start}

@@ -5,7 +5,7 @@ use borrow.Author.Needs.{needs}
 use Rattle.records.specs.declared.Reading.{Reading}
 use Rattle.records.specs.Format.{Ranged}
 use Rattle.records.proofs.Laws.{accepted-ranges}
-use Rattle.figures.specs.Model.{chainOf}
+use Rattle.modules.specs.Model.{chainOf}
 use Rattle.greedy.specs.Greedy.{greedyOn, greedyBytesOn}
 use Rattle.greedy.proofs.Answering.{answer-costs, answer-short, answer-on}
 use Rattle.greedy.proofs.greedy.greedy_plan.Statement.{statement}

@@ -6,9 +6,10 @@ use Prim.Native.Nat.{_-_}
 use native.Mathlib.Omega.{arith}
 use lib.ListN.{length}
 use borrow.Author.Needs.{needs}
-use Rattle.figures.specs.declared.Module.{Module}
+use Rattle.modules.specs.declared.Module.{Module}
+use Rattle.modules.specs.Model.{Chain, chainOf}
 use Rattle.figures.specs.declared.Answer.{Answer}
-use Rattle.figures.specs.Model.{Chain, chainOf, bottleneck}
+use Rattle.figures.specs.Model.{bottleneck}
 use Rattle.figures.specs.Plan.{modulesOf, figuresOf}
 use Rattle.greedy.specs.Greedy.{predecessor}
 use Rattle.greedy.specs.Assignment.{choiceOf}

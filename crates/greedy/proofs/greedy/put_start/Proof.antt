@@ -3,7 +3,7 @@ use mathlib.Core.Path.{_≡_, refl, _∙_}
 use Prim.Native.Nat.{_+_, _-_, _*_, _≤_, _<_}
 use native.Mathlib.Omega.{arith}
 use lib.ListN.{length}
-use Rattle.figures.specs.Model.{chainOf}
+use Rattle.modules.specs.Model.{chainOf}
 use Rattle.greedy.proofs.Filling.{Filled, fill-none, fill-more, fill-all}
 use Rattle.greedy.proofs.Starting.{fewest-range}
 use Rattle.greedy.proofs.greedy.put_start.Statement.{statement}

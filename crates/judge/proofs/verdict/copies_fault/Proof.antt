@@ -3,7 +3,7 @@ use mathlib.Core.Path.{_≡_, sym, _∙_}
 use Prim.Native.Nat.{_+_, _-_, _≤_}
 use native.Mathlib.Nat.{sub-zero}
 use native.Mathlib.Omega.{arith}
-use Rattle.figures.specs.Model.{chainOf}
+use Rattle.modules.specs.Model.{chainOf}
 use Rattle.figures.specs.Plan.{modulesFrom}
 use Rattle.figures.specs.Judge.{firstFailing, copiesTest}
 use Rattle.figures.proofs.Turns.{record-here, failing-here, failing-next, failing-end}

@@ -3,7 +3,7 @@
 use mathlib.Core.Path.{refl, _∙_}
 use native.Mathlib.Omega.{arith}
 use borrow.Author.Needs.{needs}
-use Rattle.figures.specs.Model.{chainOf}
+use Rattle.modules.specs.Model.{chainOf}
 use Rattle.figures.specs.Plan.{encode}
 use Rattle.figures.proofs.Placing.{put-room}
 use Rattle.planners.specs.Search.{topThreshold}

@@ -6,7 +6,7 @@ use native.Mathlib.Omega.{arith}
 use mathlib.Core.Path.{_≡_, refl, _∙_}
 use lib.ListN.{length}
 use borrow.Author.Needs.{needs}
-use Rattle.figures.specs.Model.{chainOf}
+use Rattle.modules.specs.Model.{chainOf}
 use Rattle.search.specs.Loops.{Bracket}
 use Rattle.search.proofs.Bisect.{bracket-start, bracket-down, bracket-up, bracket-end}
 use Rattle.search.proofs.Plain.{plain-laws}

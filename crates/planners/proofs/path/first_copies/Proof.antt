@@ -5,7 +5,7 @@ use Prim.Native.Nat.{ℕ, _+_, _-_, _≤_, _<_}
 use native.Mathlib.Omega.{arith}
 use borrow.Author.Count.{below-more}
 use borrow.Author.Needs.{needs}
-use Rattle.figures.specs.Model.{chainOf}
+use Rattle.modules.specs.Model.{chainOf}
 use Rattle.planners.specs.Search.{mayCome}
 use Rattle.planners.proofs.Coming.{comes-not}
 use Rattle.planners.proofs.path.first_copies.Statement.{statement}

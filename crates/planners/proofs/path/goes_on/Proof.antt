@@ -4,7 +4,7 @@ use native.Mathlib.Omega.{arith}
 use borrow.Author.Needs.{needs}
 use borrow.Author.Tests.{lt-ltb, le-ltb}
 use Rattle.records.proofs.Bounds.{product-of-bytes}
-use Rattle.figures.specs.Model.{chainOf}
+use Rattle.modules.specs.Model.{chainOf}
 use Rattle.planners.proofs.Cells.{read-size}
 use Rattle.planners.proofs.path.goes_on.Statement.{statement}
 use Rattle.planners.proofs.path.goes_on.Tie as tie

@@ -7,7 +7,7 @@ use native.Mathlib.Omega.{arith}
 use borrow.Author.Needs.{needs}
 use lib.ListN.{length}
 use Rattle.records.proofs.Bounds.{product-of-bytes}
-use Rattle.figures.specs.Model.{chainOf}
+use Rattle.modules.specs.Model.{chainOf}
 use Rattle.figures.specs.Plan.{mostModules}
 use Rattle.figures.proofs.Shapes.{encode-length}
 use Rattle.planners.proofs.Laying.{Laid, laid-start, laid-length, laid-end, next-some, next-later, next-fits, laid-next}

@@ -5,7 +5,7 @@ use Prim.Native.Nat.{ℕ, _+_, _-_, _≤_, _<_}
 use native.Mathlib.Omega.{arith}
 use borrow.Author.Count.{below-none, below-more}
 use borrow.Author.Needs.{needs}
-use Rattle.figures.specs.Model.{chainOf}
+use Rattle.modules.specs.Model.{chainOf}
 use Rattle.planners.proofs.Coming.{goes, comes-at, comes-nowhere}
 use Rattle.planners.proofs.path.may_come.Statement.{statement}
 use Rattle.planners.proofs.path.may_come.Tie as tie

@@ -4,7 +4,7 @@ use Prim.Native.Nat.{_+_, _-_, _≤_}
 use native.Mathlib.Omega.{arith}
 use borrow.Author.Count.{below-more}
 use borrow.Author.Needs.{needs}
-use Rattle.figures.specs.Model.{chainOf}
+use Rattle.modules.specs.Model.{chainOf}
 use Rattle.planners.proofs.Coming.{NoneBelow, comes-not, last-comes, next-is}
 use Rattle.planners.proofs.path.next_module.Statement.{statement}
 use Rattle.planners.proofs.path.next_module.Tie as tie

@@ -6,7 +6,7 @@ use native.Mathlib.Omega.{arith}
 use mathlib.Core.Path.{sym, _∙_}
 use borrow.Author.Needs.{needs}
 use Rattle.records.specs.declared.Board.{Board}
-use Rattle.figures.specs.Model.{chainOf}
+use Rattle.modules.specs.Model.{chainOf}
 use Rattle.search.specs.Flat.{rowOf, cells}
 use Rattle.search.proofs.Flat.{row-le}
 use Rattle.search.proofs.Fill.{cell-from, cell-over}

@@ -5,7 +5,7 @@ use native.Mathlib.Omega.{arith}
 use mathlib.Core.Path.{_≡_, refl, _∙_}
 use lib.ListN.{length, length-set}
 use borrow.Author.Needs.{needs}
-use Rattle.figures.specs.Model.{chainOf}
+use Rattle.modules.specs.Model.{chainOf}
 use Rattle.search.specs.Best.{fitsAt}
 use Rattle.search.specs.Flat.{cells, Filled}
 use Rattle.search.proofs.Flat.{filled-end, filled-set}

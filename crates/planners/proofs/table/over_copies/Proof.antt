@@ -5,7 +5,7 @@ use native.Mathlib.Nat.{le-refl, mul-le-mul}
 use native.Mathlib.Omega.{arith}
 use mathlib.Core.Path.{_∙_}
 use borrow.Author.Needs.{needs}
-use Rattle.figures.specs.Model.{chainOf}
+use Rattle.modules.specs.Model.{chainOf}
 use Rattle.search.proofs.Least.{lesser-le}
 use Rattle.planners.proofs.Cells.{read-size, copies-none, copies-some}
 use Rattle.planners.proofs.table.over_copies.Statement.{statement}

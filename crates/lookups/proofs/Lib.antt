@@ -1,0 +1,4 @@
+pub mod Inside
+pub mod Laws
+pub mod Looked
+pub mod Places

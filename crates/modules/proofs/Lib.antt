@@ -1,0 +1,6 @@
+pub mod Amounts
+pub mod Ends
+pub mod Fewest
+pub mod Laws
+pub mod Left
+pub mod Sums

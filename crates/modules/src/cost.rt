@@ -1,0 +1,88 @@
+// Sums over a module's tasks, from first to last; 0 where last is below first. Whatever the bytes are, 255 tasks of 32-bit
+// values cannot overflow 64 bits.
+ghost use mathlib.Core.Path.{_≡_};
+ghost use Prim.Native.Nat.{_<_};
+ghost use Rattle.modules.specs.Model.{chainOf, gather, nothing, body as bodyOf, transfer as transferOf, response as responseTo};
+ghost use Rattle.modules.specs.Rules.{mark};
+use crate::Module;
+use records::Board;
+
+// The execution of each task at p cores and the internal transfer at p between each two, in ticks.
+pub fn body(costs: &[u8], board: Board, first: u8, last: u8, p: u8) -> u64
+    ensures { λ r. ⌜ (r ≡ bodyOf (chainOf (now (costs .entry)) board) first last p) × (r < 4398046511104) ⌝ }
+{
+    if last < first {
+        return 0;
+    }
+    let mut sum: u64 = 0;
+    let mut t = first;
+    while t < last {
+        sum += held::execution(costs, board, t, p) as u64;
+        sum += held::internal(costs, board, t, p) as u64;
+        t += 1;
+    }
+    sum + (held::execution(costs, board, last, p) as u64)
+}
+
+// The memory needs of the tasks, in KiB.
+pub(crate) fn needs(costs: &[u8], board: Board, first: u8, last: u8) -> u64
+    ensures { λ r. ⌜ r ≡ gather (chainOf (now (costs .entry)) board .need) nothing first last ⌝ }
+{
+    if last < first {
+        return 0;
+    }
+    let mut sum: u64 = 0;
+    let mut t = first;
+    while t < last {
+        sum += held::need(costs, board, t) as u64;
+        t += 1;
+    }
+    sum + (held::need(costs, board, last) as u64)
+}
+
+// 1 for a task that is not replicable, else 0.
+fn mark_of(costs: &[u8], board: Board, t: u8) -> u64
+    ensures { λ r. ⌜ (r ≡ mark (chainOf (now (costs .entry)) board) t) × (r < 2) ⌝ }
+{
+    if held::replicable(costs, board, t) {
+        0
+    } else {
+        1
+    }
+}
+
+// How many of the tasks are not replicable.
+pub(crate) fn marks(costs: &[u8], board: Board, first: u8, last: u8) -> u64
+    ensures { λ r. ⌜ r ≡ gather (mark (chainOf (now (costs .entry)) board)) nothing first last ⌝ }
+{
+    if last < first {
+        return 0;
+    }
+    let mut sum: u64 = 0;
+    let mut t = first;
+    while t < last {
+        sum += mark_of(costs, board, t);
+        t += 1;
+    }
+    sum + mark_of(costs, board, last)
+}
+
+// The external transfer from task t to the next at s sending and q receiving cores; 0 where one of them is 0.
+pub fn transfer(costs: &[u8], board: Board, t: u8, s: u8, q: u8) -> u32
+    ensures { λ r. ⌜ r ≡ transferOf (chainOf (now (costs .entry)) board) t s q ⌝ }
+{
+    held::transfer(costs, board, t, s, q)
+}
+
+// The response of the module m between one of s cores and one of q, 0 for none.
+pub fn response_of(costs: &[u8], board: Board, s: u8, m: Module, q: u8) -> u64
+    ensures { λ r. ⌜ (r ≡ responseTo (chainOf (now (costs .entry)) board) s (m .first) (m .last) (m .copies) (m .cores) q) × (r < 8796093022208) ⌝ }
+{
+    let mut before: u8 = 0;
+    if 0 < m.first {
+        before = m.first - 1;
+    }
+    let received = transfer(costs, board, before, s, m.cores) as u64;
+    let sent = transfer(costs, board, m.last, m.cores, q) as u64;
+    received + body(costs, board, m.first, m.last, m.cores) + sent
+}

@@ -1,0 +1,23 @@
+// A module of a plan (document 01, "The chain and the board"; source document 000, 2.1 and 2.2): what it costs and which rules it
+// keeps.
+//
+// Whatever lies above takes every cost and test of a module from here. No public function has a `requires`: each answers for all
+// bytes, boards and numbers. A task, a count of copies and a count of cores are one byte each, as in plan bytes.
+mod cost;
+mod rules;
+
+pub use cost::body;
+pub use cost::response_of;
+pub use cost::transfer;
+pub use rules::copies_allowed;
+pub use rules::fewest_cores;
+pub use rules::memory_fits;
+pub use rules::rules_met;
+
+// A module of a plan: an unbroken run of tasks, first to last, in r copies of p cores each.
+pub struct Module {
+    pub first: u8,
+    pub last: u8,
+    pub copies: u8,
+    pub cores: u8,
+}

@@ -1,0 +1,51 @@
+// What a module has to keep by itself, and the fewest cores that its memory allows.
+ghost use mathlib.Core.Path.{_≡_};
+ghost use Rattle.modules.specs.Model.{chainOf};
+ghost use Rattle.modules.specs.Rules.{copiesAllowed, memoryFits, moduleRules, fewestCores};
+use crate::cost::marks;
+use crate::cost::needs;
+use records::Board;
+
+// Whether the tasks' needs, added up, are at most p times the capacity of a core.
+pub fn memory_fits(costs: &[u8], board: Board, first: u8, last: u8, p: u8) -> bool
+    ensures { λ r. ⌜ r ≡ memoryFits (chainOf (now (costs .entry)) board) first last p ⌝ }
+{
+    let room = (p as u64) * (board.capacity as u64);
+    needs(costs, board, first, last) <= room
+}
+
+// Whether the module may have r copies.
+pub fn copies_allowed(costs: &[u8], board: Board, first: u8, last: u8, r: u8) -> bool
+    ensures { λ x. ⌜ x ≡ copiesAllowed (chainOf (now (costs .entry)) board) first last r ⌝ }
+{
+    if r <= 1 {
+        return true;
+    }
+    marks(costs, board, first, last) == 0
+}
+
+// Whether the module may have r copies of p cores.
+pub fn rules_met(costs: &[u8], board: Board, first: u8, last: u8, r: u8, p: u8) -> bool
+    ensures { λ x. ⌜ x ≡ moduleRules (chainOf (now (costs .entry)) board) first last r p ⌝ }
+{
+    if copies_allowed(costs, board, first, last, r) {
+        memory_fits(costs, board, first, last, p)
+    } else {
+        false
+    }
+}
+
+// The fewest cores that the module's memory allows, tried from 1 on; one more than the board has where none do.
+pub fn fewest_cores(costs: &[u8], board: Board, first: u8, last: u8) -> u32
+    ensures { λ r. ⌜ r ≡ fewestCores (chainOf (now (costs .entry)) board) first last ⌝ }
+{
+    let cores = board.cores;
+    let mut p: u8 = 0;
+    while p < cores {
+        p += 1;
+        if memory_fits(costs, board, first, last, p) {
+            return p as u32;
+        }
+    }
+    (cores as u32) + 1
+}
