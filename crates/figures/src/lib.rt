@@ -1,5 +1,5 @@
 // The figures of a plan (document 01, "The chain and the board", "Plan bytes"; source document 000, 2.1 and 2.2): what plan bytes
-// say, and what it costs.
+// say, and what such a plan costs.
 //
 // Whatever lies above takes every figure of a plan from here, and every cost and test of a module from `modules`. No public function
 // has a `requires`: each answers for all bytes, boards and numbers.

@@ -1,6 +1,5 @@
 -- A module in the chain model (document 01, "The chain and the board"; source document 000, 2.1 and 2.2), over a chain's cost
--- functions.
--- Tasks are numbered from 1. 0 cores stand for "no module" before the first or after the last one. Assumes nothing.
+-- functions. Tasks are numbered from 1. 0 cores stand for "no module" before the first or after the last one. Assumes nothing.
 use Prim.Native.Nat.{ℕ, zero, suc, _+_, _-_}
 use mathlib.Core.List.{List}
 use mathlib.Core.Bool.{Bool, cond, _||_}
