@@ -6,8 +6,9 @@ use native.Mathlib.Numerals.{add-one}
 use borrow.Author.Tests.{eq-eqb, ne-eqb}
 use Rattle.records.specs.Costs.{readCosts}
 use Rattle.modules.specs.Model.{Chain, chainOf}
+use Rattle.layout.specs.Layout.{mostModules, recordOf, modulesOf}
 use Rattle.figures.specs.declared.Answer.{Answer}
-use Rattle.figures.specs.Plan.{mostModules, recordOf, modulesOf, responseAt}
+use Rattle.figures.specs.Plan.{responseAt}
 use Rattle.console.specs.Text.{moduleLine, slowestLine, refusedLine, linesOf, moduleLines, reportText}
 
 -- ---- the modules' lines

@@ -10,8 +10,9 @@ use lib.Dec.{ltb, eqb}
 use Rattle.records.specs.Costs.{readCosts}
 use Rattle.modules.specs.declared.Module.{Module}
 use Rattle.modules.specs.Model.{Chain, chainOf}
+use Rattle.layout.specs.Layout.{mostModules, recordOf, modulesOf}
 use Rattle.figures.specs.declared.Answer.{Answer}
-use Rattle.figures.specs.Plan.{mostModules, recordOf, modulesOf, responseAt}
+use Rattle.figures.specs.Plan.{responseAt}
 use Rattle.console.specs.Room.{numberRoom}
 use Rattle.console.specs.declared.Text.{Text}
 

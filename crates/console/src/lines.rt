@@ -4,7 +4,7 @@ ghost use mathlib.Core.List.{_++_};
 ghost use Prim.Native.Nat.{_+_, _*_, _≤_, min};
 ghost use Rattle.io.specs.Counts.{Counts};
 ghost use Rattle.modules.specs.Model.{chainOf};
-ghost use Rattle.figures.specs.Plan.{mostModules};
+ghost use Rattle.layout.specs.Layout.{mostModules};
 ghost use Rattle.console.specs.Text.{textOf, moduleLine, slowestLine, refusedLine, tooLong, moduleLines, reportText};
 ghost use Rattle.console.specs.Room.{room, lineRoom, slowestRoom};
 use crate::Text;
@@ -13,7 +13,7 @@ use crate::words::ended;
 use crate::words::spaced;
 use crate::words::with_text;
 use figures::Answer;
-use figures::MOST_MODULES;
+use layout::MOST_MODULES;
 use modules::Module;
 use records::Board;
 
@@ -37,7 +37,7 @@ fn module_lines(costs: &[u8], board: Board, plan: &[u8], count: u32) -> Text
     let mut t = blank();
     let mut i: u32 = 0;
     while i < count {
-        let m = figures::module_at(plan, i);
+        let m = layout::module_at(plan, i);
         let x = figures::response(costs, board, plan, i);
         let next = module_line(t, m, x);
         t = next;

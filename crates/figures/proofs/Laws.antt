@@ -14,11 +14,13 @@ use Rattle.records.specs.Costs.{mostCores, mostValue}
 use Rattle.records.specs.Format.{IsCosts}
 use Rattle.modules.specs.declared.Module.{Module}
 use Rattle.modules.specs.Model.{Chain, chainOf}
+use Rattle.layout.specs.Layout.{mostModules, planBytes, modulesOf, encodePlan}
+use Rattle.layout.proofs.Placing as placing
 use Rattle.figures.specs.declared.Answer.{Answer}
 use Rattle.figures.specs.declared.Slowest.{Slowest}
 use Rattle.figures.specs.Model.{bottleneck}
 use Rattle.figures.specs.Rules.{covers, keepsRules}
-use Rattle.figures.specs.Plan.{mostModules, planBytes, modulesOf, encodePlan, figuresOf}
+use Rattle.figures.specs.Plan.{figuresOf}
 use Rattle.figures.specs.Judge.{shapeFault, judged}
 use Rattle.figures.specs.Claims.{loads, IsBottleneck, chain, Judges, Passes}
 use Rattle.figures.proofs.Covering as covering
@@ -50,7 +52,7 @@ module _ (s : List ℕ) (b : Board) (c : IsCosts s b) (ms : List Module) (keeps 
   plan-modules = omega (arith, covering.covers-length (b .tasks) 1 ms covered, c .ranged .most-tasks)
 
   pub plan-bytes : length (encodePlan ms) ≡ planBytes
-  plan-bytes = shapes.encode-length mostModules ms
+  plan-bytes = placing.encode-length mostModules ms
 
   pub decode-encode : modulesOf (encodePlan ms) (b .tasks) ≡ ms
   decode-encode = shapes.decode-encode (b .tasks) ms (c .ranged .some-tasks) (c .ranged .most-tasks) covered

@@ -5,7 +5,6 @@ pub mod Laws
 pub mod Limits
 pub mod Listed
 pub mod Passing
-pub mod Placing
 pub mod Shapes
 pub mod Tops
 pub mod Turns

@@ -14,9 +14,10 @@ use Rattle.records.proofs.Cases.{lt-or-le}
 use Rattle.modules.specs.declared.Module.{Module}
 use Rattle.modules.specs.Model.{Chain, response}
 use Rattle.modules.proofs.Left.{left-some, left-none}
+use Rattle.layout.specs.Layout.{moduleAt, modulesFrom}
 use Rattle.figures.specs.declared.Slowest.{Slowest}
 use Rattle.figures.specs.Model.{headCores, responses, coresOf, slowerOf, slowestFrom, bottleneck}
-use Rattle.figures.specs.Plan.{moduleAt, modulesFrom, coresBefore, slownessAt}
+use Rattle.figures.specs.Plan.{coresBefore, slownessAt}
 
 pub modules-length : (w : List ℕ) (i n : ℕ) → length (modulesFrom w i n) ≡ n
 unfolding modulesFrom

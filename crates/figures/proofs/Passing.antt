@@ -15,10 +15,11 @@ use Rattle.records.proofs.Laws.{accepted-ranges}
 use Rattle.modules.specs.declared.Module.{Module}
 use Rattle.modules.specs.Model.{Chain}
 use Rattle.modules.specs.Rules.{moduleRules}
+use Rattle.layout.specs.Layout.{mostModules, planBytes}
 use Rattle.figures.specs.declared.Answer.{Answer}
 use Rattle.figures.specs.Model.{coresOf}
 use Rattle.figures.specs.Rules.{covers, eachAllowed, keepsRules}
-use Rattle.figures.specs.Plan.{mostModules, planBytes, figuresOf}
+use Rattle.figures.specs.Plan.{figuresOf}
 use Rattle.figures.specs.Judge.{refusal, shapeFault, firstFailing, copiesTest, memoryTest, judgedPlan, judgedBytes, judged}
 use Rattle.figures.specs.Claims.{RightShape, noModule, AllPass, FailsAt, Readable, chain, plan, Judges, Judges.costs-wrong, Judges.bytes-short, Judges.shape-wrong, Judges.copies-wrong, Judges.memory-wrong, Judges.cores-wrong, Judges.passed, Passes}
 use Rattle.figures.proofs.Faults.{Shaped, Shaped.right, Shaped.wrong, shaped, shaped-one, Failing, Failing.none, Failing.first, failing, failing-one}

@@ -13,8 +13,9 @@ use lib.Dec.{eqb}
 use borrow.Author.Tests.{eq-eqb, ne-eqb, le-leb, eqb-true, eqb-false, leb-true}
 use Rattle.records.proofs.Cases.{true-or-false, and-true}
 use Rattle.modules.specs.declared.Module.{Module}
+use Rattle.layout.proofs.Placing.{encode-length}
+use Rattle.layout.specs.Layout.{mostModules, planBytes, moduleAt, countFrom, moduleCount, modulesFrom, modulesOf, encode, encodePlan}
 use Rattle.figures.specs.Rules.{covers}
-use Rattle.figures.specs.Plan.{mostModules, planBytes, moduleAt, countFrom, moduleCount, modulesFrom, modulesOf, encode, encodePlan}
 use Rattle.figures.specs.Judge.{isBlank, isModule, blankFault, shapeFault}
 use Rattle.figures.proofs.Covering.{covers-head, covers-end, covers-cons, covers-nil, covers-length}
 
@@ -193,12 +194,6 @@ module _ (k : ℕ) (w : List ℕ) (long : planBytes ≤ length w) where
 
   pub plan-shape : (ms : List Module) → 1 ≤ k → k ≤ mostModules → covers k 1 ms ≡ true → encodePlan ms ≡ take planBytes w → (shapeFault k w 1 0 mostModules ≡ 0) × (modulesOf w k ≡ ms)
   plan-shape ms h i c e = rw (rest-all w k) at (modules-shape w k ms mostModules 1 0 long c h (omega (arith, covers-length k 1 ms c)) e)
-
-pub encode-length : (n : ℕ) (ms : List Module) → length (encode n ms) ≡ 4 * n
-unfolding encode
-encode-length zero ms = refl
-encode-length (suc n) [] = omega (arith, encode-length n [])
-encode-length (suc n) (m ∷ ms) = omega (arith, encode-length n ms)
 
 -- encoding then decoding gives the modules back
 pub decode-encode : (k : ℕ) (ms : List Module) → 1 ≤ k → k ≤ mostModules → covers k 1 ms ≡ true → modulesOf (encodePlan ms) k ≡ ms

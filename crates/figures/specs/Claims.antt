@@ -8,11 +8,12 @@ use lib.ListN.{length, getD, take}
 use Rattle.records.specs.Costs.{readCosts}
 use Rattle.modules.specs.declared.Module.{Module}
 use Rattle.modules.specs.Model.{Chain, chainOf}
+use Rattle.layout.specs.Layout.{mostModules, planBytes, moduleAt, modulesOf, encodePlan}
 use Rattle.figures.specs.declared.Answer.{Answer}
 use Rattle.figures.specs.declared.Slowest.{Slowest}
 use Rattle.figures.specs.Model.{responseOf, coresOf}
 use Rattle.figures.specs.Rules.{keepsRules}
-use Rattle.figures.specs.Plan.{mostModules, planBytes, moduleAt, modulesOf, encodePlan, figuresOf}
+use Rattle.figures.specs.Plan.{figuresOf}
 use Rattle.figures.specs.Judge.{refusal, isBlank, isModule, copiesTest, memoryTest}
 
 -- ---- the bottleneck

@@ -8,9 +8,10 @@ use Rattle.records.specs.Costs.{readCosts}
 use Rattle.modules.specs.declared.Module.{Module}
 use Rattle.modules.specs.Model.{Chain, chainOf}
 use Rattle.modules.specs.Rules.{copiesAllowed, memoryFits}
+use Rattle.layout.specs.Layout.{mostModules, planBytes, moduleAt, modulesOf}
 use Rattle.figures.specs.declared.Answer.{Answer}
 use Rattle.figures.specs.Model.{coresOf}
-use Rattle.figures.specs.Plan.{mostModules, planBytes, moduleAt, modulesOf, figuresOf}
+use Rattle.figures.specs.Plan.{figuresOf}
 
 -- a refusal has zero figures
 abbrev pub refusal : ℕ → ℕ → Answer

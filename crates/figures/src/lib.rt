@@ -1,23 +1,14 @@
 // The figures of a plan (document 01, "The chain and the board", "Plan bytes"; source document 000, 2.1 and 2.2): what plan bytes
 // say, and what such a plan costs.
 //
-// Whatever lies above takes every figure of a plan from here, and every cost and test of a module from `modules`. No public function
-// has a `requires`: each answers for all bytes, boards and numbers.
+// Whatever lies above takes every figure of a plan from here. No public function has a `requires`: each answers for all bytes, boards
+// and numbers.
 mod plan;
 
 pub use plan::cores_used;
 pub use plan::figures;
-pub use plan::module_at;
-pub use plan::module_count;
-pub use plan::put_module;
-pub use plan::put_plan;
 pub use plan::refuse;
 pub use plan::response;
-
-// The most modules of a plan, and the bytes that they take.
-pub const MOST_MODULES: u32 = 12;
-
-pub const PLAN_BYTES: usize = 48;
 
 // The answer of each service: a refusal's number (0: none) and place, or the plan's count of modules, its cores, and of its
 // bottleneck the number of the module, counted from 1, its response and its copies. A refusal has zero figures.

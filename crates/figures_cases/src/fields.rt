@@ -26,7 +26,7 @@ pub(crate) fn responses(costs: &[u8], board: Board, plan: &[u8]) {
 }
 
 pub(crate) fn count(plan: &[u8], k: u8) {
-    number(figures::module_count(plan, k) as u64);
+    number(layout::module_count(plan, k) as u64);
 }
 
 // Modules up to the one that ends at task 2, 1 and 3; twelve where none does.
@@ -47,7 +47,7 @@ pub(crate) fn show_module(plan: &[u8], i: u32) {
     text(b"module");
     number(i as u64);
     text(b":");
-    print_module(figures::module_at(plan, i));
+    print_module(layout::module_at(plan, i));
 }
 
 pub(crate) fn modules(plan: &[u8]) {
@@ -141,7 +141,7 @@ pub(crate) fn put_module(plan: &mut [u8], i: u32) {
         copies: 3,
         cores: 4,
     };
-    figures::put_module(plan, i, m);
+    layout::put_module(plan, i, m);
     text(b"put module");
     number(i as u64);
     text(b":");

@@ -13,14 +13,16 @@ use Rattle.records.proofs.Cases.{lt-or-le, true-or-false}
 use Rattle.records.proofs.Laws.{accepted-ranges}
 use Rattle.modules.specs.declared.Module.{Module}
 use Rattle.modules.specs.Model.{Chain}
+use Rattle.layout.specs.Layout.{mostModules, planBytes, modulesOf, encodePlan}
+use Rattle.layout.proofs.Placing.{encode-length}
 use Rattle.figures.specs.declared.Answer.{Answer}
 use Rattle.figures.specs.Model.{coresOf}
-use Rattle.figures.specs.Plan.{mostModules, planBytes, modulesOf, encodePlan, figuresOf}
+use Rattle.figures.specs.Plan.{figuresOf}
 use Rattle.figures.specs.Judge.{refusal, judged}
 use Rattle.figures.specs.Claims.{Readable, chain}
 use Rattle.figures.proofs.Laws.{judge-figures}
 use Rattle.figures.proofs.Passing.{keeps-parts}
-use Rattle.figures.proofs.Shapes.{encode-length, decode-encode}
+use Rattle.figures.proofs.Shapes.{decode-encode}
 use Rattle.greedy.specs.Greedy.{start, greedyFrom, greedyPlan, greedyOn, greedyAnswer, greedyBytesOn, greedyBytes}
 use Rattle.greedy.proofs.Keeping.{plan-keeps}
 

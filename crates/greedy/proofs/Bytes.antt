@@ -6,9 +6,9 @@ use Prim.Native.Nat.{ℕ, zero, suc, _+_, _*_, _≤_, _<_}
 use native.Mathlib.Omega.{arith}
 use lib.ListN.{length, getD, set}
 use Rattle.modules.specs.declared.Module.{Module}
+use Rattle.layout.specs.Layout.{mostModules, modulesOf, encode, encodePlan}
 use Rattle.figures.specs.Model.{coresOf}
 use Rattle.figures.specs.Rules.{covers}
-use Rattle.figures.specs.Plan.{mostModules, modulesOf, encode, encodePlan}
 use Rattle.figures.proofs.Covering.{covers-length}
 use Rattle.figures.proofs.Shapes.{decode-encode}
 use Rattle.greedy.specs.Greedy.{give}

@@ -11,10 +11,10 @@ use borrow.Author.Tests.{lt-ltb, le-ltb}
 use Rattle.records.proofs.Cases.{true-not-false, lt-or-le}
 use Rattle.modules.specs.declared.Module.{Module}
 use Rattle.modules.specs.Model.{Chain}
+use Rattle.layout.specs.Layout.{mostModules, modulesOf}
 use Rattle.figures.specs.declared.Slowest.{Slowest}
 use Rattle.figures.specs.Model.{coresOf, bottleneck}
 use Rattle.figures.specs.Rules.{covers}
-use Rattle.figures.specs.Plan.{mostModules, modulesOf}
 use Rattle.figures.specs.Claims.{loads}
 use Rattle.figures.proofs.Covering.{covers-end}
 use Rattle.figures.proofs.Tops.{bottleneck-is}

@@ -9,9 +9,9 @@ use lib.Seq.{length-take-le}
 use Rattle.modules.specs.declared.Module.{Module}
 use Rattle.modules.specs.Model.{Chain}
 use Rattle.modules.specs.Rules.{fewestCores}
+use Rattle.layout.specs.Layout.{mostModules, encodePlan, putModule}
+use Rattle.layout.proofs.Placing.{put-bytes}
 use Rattle.figures.specs.Model.{coresOf}
-use Rattle.figures.specs.Plan.{mostModules, encodePlan, putModule}
-use Rattle.figures.proofs.Placing.{put-bytes}
 use Rattle.greedy.specs.Greedy.{least, start}
 use Rattle.greedy.specs.Assignment.{lastOf}
 use Rattle.greedy.proofs.Starting.{startAt, start-next, start-none, start-all}

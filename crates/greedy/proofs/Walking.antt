@@ -10,8 +10,8 @@ use borrow.Author.Tests.{lt-ltb, le-ltb, not-true, not-false}
 use Rattle.records.specs.Costs.{mostCores}
 use Rattle.modules.specs.declared.Module.{Module}
 use Rattle.modules.specs.Model.{Chain}
+use Rattle.layout.specs.Layout.{modulesOf, encodePlan}
 use Rattle.figures.specs.Model.{coresOf}
-use Rattle.figures.specs.Plan.{modulesOf, encodePlan}
 use Rattle.greedy.specs.declared.greedy.Choice.{Choice}
 use Rattle.greedy.specs.Greedy.{time, next, better, greedyFrom}
 use Rattle.greedy.specs.Assignment.{Assigned, choiceOf, Chosen}

@@ -6,9 +6,9 @@ use mathlib.Core.Option.{Option, none, some}
 use mathlib.Core.Bool.{true, cond}
 use Rattle.modules.specs.declared.Module.{Module}
 use Rattle.modules.specs.Model.{Chain}
+use Rattle.layout.specs.Layout.{modulesOf, encodePlan}
 use Rattle.figures.specs.Model.{coresOf}
 use Rattle.figures.specs.Rules.{covers}
-use Rattle.figures.specs.Plan.{modulesOf, encodePlan}
 use Rattle.greedy.specs.declared.greedy.Choice.{Choice}
 use Rattle.greedy.specs.Greedy.{bit, time}
 

@@ -11,9 +11,10 @@ use Rattle.records.specs.Costs.{readCosts}
 use Rattle.modules.specs.declared.Module.{Module}
 use Rattle.modules.specs.Model.{Chain, chainOf}
 use Rattle.modules.specs.Rules.{fewestCores}
+use Rattle.layout.specs.Layout.{planBytes, encodePlan}
 use Rattle.figures.specs.declared.Answer.{Answer}
 use Rattle.figures.specs.Model.{coresOf, bottleneck}
-use Rattle.figures.specs.Plan.{planBytes, encodePlan, figuresOf}
+use Rattle.figures.specs.Plan.{figuresOf}
 use Rattle.figures.specs.Judge.{refusal}
 
 -- ---- step 1: each module has the fewest cores that its memory allows

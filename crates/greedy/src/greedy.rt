@@ -4,14 +4,14 @@ ghost use mathlib.Core.List.{[]};
 ghost use Prim.Native.Nat.{_+_, _-_, _*_, _^_, _≤_, _<_};
 ghost use lib.ListN.{length, getD, set};
 ghost use Rattle.modules.specs.Model.{chainOf};
+ghost use Rattle.layout.specs.Layout.{planBytes, modulesOf, encodePlan};
 ghost use Rattle.figures.specs.Model.{coresOf};
-ghost use Rattle.figures.specs.Plan.{planBytes, modulesOf, encodePlan};
 ghost use Rattle.greedy.specs.Greedy.{bit, start, time, consider as considering, next, greedyFrom, greedyOn, greedyBytesOn, greedyAnswer, greedyBytes};
 ghost use Rattle.greedy.specs.Assignment.{lastOf, Assigned, choiceOf, Chosen};
 use figures::Answer;
-use figures::PLAN_BYTES;
-use figures::put_plan;
 use figures::refuse;
+use layout::PLAN_BYTES;
+use layout::put_plan;
 use modules::Module;
 use records::Board;
 
@@ -70,7 +70,7 @@ fn put_start(costs: &[u8], board: Board, grouping: u16, plan: &mut [u8]) -> u32
             copies: 1,
             cores,
         };
-        figures::put_module(plan, i, m);
+        layout::put_module(plan, i, m);
         sum += fewest;
         i += 1;
         first = last + 1;
@@ -104,7 +104,7 @@ fn consider(costs: &[u8], board: Board, plan: [u8; PLAN_BYTES], best: Choice, i:
     ensures { λ r. ⌜ Chosen (chainOf (now (costs .entry)) board) (modulesOf plan (board .tasks)) r
         × (choiceOf (board .tasks) r ≡ considering (chainOf (now (costs .entry)) board) (modulesOf plan (board .tasks)) (choiceOf (board .tasks) best) i) ⌝ }
 {
-    let count = figures::module_count(&plan, board.tasks);
+    let count = layout::module_count(&plan, board.tasks);
     if count <= i {
         return best;
     }

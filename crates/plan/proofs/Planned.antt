@@ -3,8 +3,8 @@ use mathlib.Core.Path.{_≡_, refl}
 use mathlib.Core.List.{List}
 use Prim.Native.Nat.{ℕ}
 use lib.ListN.{replicate}
+use Rattle.layout.specs.Layout.{planBytes}
 use Rattle.figures.specs.declared.Answer.{Answer}
-use Rattle.figures.specs.Plan.{planBytes}
 use Rattle.planners.specs.Best.{workWords, bestAnswer, bestBytes}
 use Rattle.console.specs.Text.{reportText}
 use Rattle.plan.specs.Plan.{planText}

@@ -2,7 +2,7 @@
 use Prim.Native.Nat.{ℕ}
 use mathlib.Core.List.{List}
 use lib.ListN.{replicate}
-use Rattle.figures.specs.Plan.{planBytes}
+use Rattle.layout.specs.Layout.{planBytes}
 use Rattle.planners.specs.Best.{workWords, bestAnswer, bestBytes}
 use Rattle.console.specs.Text.{reportText}
 

@@ -10,9 +10,8 @@ use lib.Dec.{T, ltb, ltb→lt}
 use borrow.Author.Tests.{ne-eqb}
 use Rattle.modules.specs.declared.Module.{Module}
 use Rattle.modules.specs.Model.{Chain}
-use Rattle.figures.specs.Plan.{mostModules, encodePlan, putModule}
-use Rattle.figures.proofs.Shapes.{encode-length}
-use Rattle.figures.proofs.Placing.{put-bytes}
+use Rattle.layout.specs.Layout.{mostModules, encodePlan, putModule}
+use Rattle.layout.proofs.Placing.{encode-length, put-bytes}
 use Rattle.search.specs.Least.{pick}
 use Rattle.search.specs.Find.{find}
 use Rattle.search.specs.Walk.{goesOn, choice, chosen, roomAfter}

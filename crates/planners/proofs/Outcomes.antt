@@ -15,13 +15,14 @@ use Rattle.records.proofs.Cases.{and-true}
 use Rattle.records.proofs.Laws.{accepted-costs}
 use Rattle.modules.specs.declared.Module.{Module}
 use Rattle.modules.specs.Model.{Chain, chainOf}
+use Rattle.layout.specs.Layout.{mostModules, planBytes, encodePlan}
+use Rattle.layout.proofs.Placing.{encode-length}
 use Rattle.figures.specs.declared.Answer.{Answer}
 use Rattle.figures.specs.Rules.{keepsRules}
-use Rattle.figures.specs.Plan.{mostModules, planBytes, encodePlan, figuresOf}
+use Rattle.figures.specs.Plan.{figuresOf}
 use Rattle.figures.specs.Judge.{refusal, judged}
 use Rattle.figures.specs.Claims.{Passes}
 use Rattle.figures.proofs.Laws.{judge-passes, judge-figures}
-use Rattle.figures.proofs.Shapes.{encode-length}
 use Rattle.planners.specs.Best.{workWords, bestPlan, foundAnswer, foundBytes, begins, bestAnswer, bestBytes}
 use Rattle.planners.specs.Claims.{ComesFirst, Filled}
 use Rattle.planners.proofs.Optimal.{found-best, found-none}

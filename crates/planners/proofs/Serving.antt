@@ -14,8 +14,9 @@ use Rattle.records.specs.Costs.{readCosts}
 use Rattle.records.specs.Format.{IsCosts}
 use Rattle.records.proofs.Laws.{accepted-costs}
 use Rattle.modules.specs.Model.{chainOf}
+use Rattle.layout.specs.Layout.{planBytes, modulesOf, encodePlan}
 use Rattle.figures.specs.declared.Answer.{Answer}
-use Rattle.figures.specs.Plan.{planBytes, modulesOf, encodePlan, figuresOf}
+use Rattle.figures.specs.Plan.{figuresOf}
 use Rattle.figures.specs.Judge.{refusal}
 use Rattle.figures.proofs.Passing.{keeps-parts}
 use Rattle.figures.proofs.Shapes.{decode-encode}

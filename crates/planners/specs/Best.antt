@@ -9,10 +9,11 @@ use lib.Dec.{ltb, leb, eqb}
 use Rattle.records.specs.Costs.{readCosts}
 use Rattle.modules.specs.declared.Module.{Module}
 use Rattle.modules.specs.Model.{Chain, chainOf}
+use Rattle.layout.specs.Layout.{planBytes, encodePlan}
 use Rattle.figures.specs.declared.Answer.{Answer}
 use Rattle.figures.specs.Model.{coresOf, bottleneck}
 use Rattle.figures.specs.Rules.{keepsRules}
-use Rattle.figures.specs.Plan.{planBytes, encodePlan, figuresOf}
+use Rattle.figures.specs.Plan.{figuresOf}
 use Rattle.figures.specs.Judge.{refusal}
 use Rattle.search.specs.Every.{every, scan}
 

@@ -8,9 +8,10 @@ use lib.ListN.{drop}
 use Rattle.records.specs.Costs.{readCosts}
 use Rattle.modules.specs.declared.Module.{Module}
 use Rattle.modules.specs.Model.{Chain, chainOf}
+use Rattle.layout.specs.Layout.{planBytes, encodePlan}
 use Rattle.figures.specs.Model.{coresOf, bottleneck}
 use Rattle.figures.specs.Rules.{keepsRules}
-use Rattle.figures.specs.Plan.{planBytes, encodePlan, figuresOf, Before}
+use Rattle.figures.specs.Plan.{figuresOf, Before}
 use Rattle.figures.specs.Claims.{AtMost, Below}
 use Rattle.planners.specs.Best.{bestAnswer, bestBytes}
 

@@ -4,15 +4,15 @@ ghost use Prim.Native.Nat.{_≤_};
 ghost use lib.ListN.{length, replicate};
 ghost use Rattle.records.specs.Format.{IsCosts};
 ghost use Rattle.modules.specs.Model.{chainOf};
-ghost use Rattle.figures.specs.Plan.{planBytes};
+ghost use Rattle.layout.specs.Layout.{planBytes};
 ghost use Rattle.planners.specs.Best.{workWords, bestPlan, foundAnswer, foundBytes, bestAnswer, bestBytes, bestWork};
 use crate::bisect::cores_within;
 use crate::bisect::least_threshold;
 use crate::path::lay_path;
 use figures::Answer;
-use figures::PLAN_BYTES;
-use figures::put_plan;
 use figures::refuse;
+use layout::PLAN_BYTES;
+use layout::put_plan;
 use records::Board;
 
 const WORK_WORDS: usize = 16384;

@@ -3,7 +3,7 @@ ghost use mathlib.Core.Path.{_≡_};
 ghost use mathlib.Core.List.{[]};
 ghost use Prim.Native.Nat.{_+_, _≤_, _<_};
 ghost use Rattle.modules.specs.Model.{chainOf};
-ghost use Rattle.figures.specs.Plan.{encodePlan};
+ghost use Rattle.layout.specs.Layout.{encodePlan};
 ghost use Rattle.search.specs.Best.{fitsAt, light, tableAt, plan as planOf};
 ghost use Rattle.search.specs.Flat.{readTable, Filled};
 ghost use Rattle.search.specs.Walk.{choice as choiceOf, chosen, goesOn};
@@ -220,7 +220,7 @@ pub(crate) fn lay_path(
         let x = next_module(costs, board, work, n, m);
         let room = room_of(costs, board, n, m, x.cores);
         let rest = room - (x.copies as u32) * (x.cores as u32);
-        figures::put_module(plan, i, x);
+        layout::put_module(plan, i, x);
         let next = Passed {
             before: m.cores,
             from: m.last,

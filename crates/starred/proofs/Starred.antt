@@ -5,9 +5,10 @@ use Rattle.records.specs.Costs.{eachFrom, joinFrom, dueKeys, countOf, keyMeets,
 use Rattle.lookups.specs.Lookups.{within, hasNext, cellOf, needOf, replicableOf, executionOf, internalOf, pairPlace, pairOf, externalOf}
 use Rattle.modules.specs.Model.{run, gather, body, transfer, response}
 use Rattle.modules.specs.Rules.{memoryFits, copiesAllowed, moduleRules, fewestFrom, fewestCores}
+use Rattle.layout.specs.Layout.{countFrom, moduleCount, modulesFrom, modulesOf, encode}
 use Rattle.figures.specs.Model.{coresOf, slowerOf, slowestFrom, bottleneck}
 use Rattle.figures.specs.Rules.{covers, eachAllowed, keepsRules}
-use Rattle.figures.specs.Plan.{countFrom, moduleCount, modulesFrom, modulesOf, encode, figuresOf}
+use Rattle.figures.specs.Plan.{figuresOf}
 use Rattle.figures.specs.Judge.{isBlank, isModule, blankFault, shapeFault, firstFailing, judgedPlan, judgedBytes, judged}
 use Rattle.greedy.specs.Greedy.{bit, startFrom, start, give, mayTake, consider, predecessor, next, greedyFrom, greedyPlan, greedyOn, greedyAnswer, greedyBytes}
 use Rattle.search.specs.Every.{inTurn, every, scan}

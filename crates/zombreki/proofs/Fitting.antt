@@ -9,9 +9,10 @@ use lib.ListN.{length}
 use lib.Dec.{leb, ltb, eqb}
 use Rattle.records.specs.Costs.{readCosts}
 use Rattle.records.proofs.Laws.{accepted-costs}
+use Rattle.layout.specs.Layout.{planBytes}
 use Rattle.figures.specs.declared.Answer.{Answer}
 use Rattle.figures.specs.Model.{coresOf}
-use Rattle.figures.specs.Plan.{planBytes, figuresOf}
+use Rattle.figures.specs.Plan.{figuresOf}
 use Rattle.figures.specs.Judge.{judged}
 use Rattle.figures.specs.Claims.{Judges, Judges.costs-wrong, Judges.bytes-short, Judges.shape-wrong, Judges.copies-wrong, Judges.memory-wrong, Judges.cores-wrong, Judges.passed, Passes, chain}
 use Rattle.figures.proofs.Laws.{judge-exactly, judge-passes, judge-figures, plan-bottleneck}

@@ -4,8 +4,8 @@ use Prim.Native.Nat.{_+_, _-_, _*_, _≤_}
 use native.Mathlib.Nat.{sub-zero}
 use native.Mathlib.Omega.{arith}
 use Rattle.records.proofs.Bounds.{product-of-bytes}
+use Rattle.layout.specs.Layout.{modulesFrom}
 use Rattle.figures.specs.Model.{coresOf}
-use Rattle.figures.specs.Plan.{modulesFrom}
 use Rattle.figures.proofs.Listed.{cores-step, cores-end}
 use Rattle.figures.proofs.plan.cores_of.Statement.{statement}
 use Rattle.figures.proofs.plan.cores_of.Tie as tie

@@ -1,7 +1,7 @@
 -- `cores_used` is the cores of the modules that are counted.
 use mathlib.Core.Path.{refl}
 use borrow.Author.Needs.{needs}
-use Rattle.figures.specs.Plan.{modulesOf}
+use Rattle.layout.specs.Layout.{modulesOf}
 use Rattle.figures.proofs.plan.cores_used.Statement.{statement}
 use Rattle.figures.proofs.plan.cores_used.Tie as tie
 

@@ -1,6 +1,7 @@
 -- `figures` is `figuresOf`: a plan has as many modules as are counted.
 use mathlib.Core.Path.{refl}
-use Rattle.figures.specs.Plan.{modulesOf, figuresOf}
+use Rattle.layout.specs.Layout.{modulesOf}
+use Rattle.figures.specs.Plan.{figuresOf}
 use Rattle.figures.proofs.Listed.{modules-length}
 use borrow.Author.Needs.{needs}
 use Rattle.figures.proofs.plan.figures.Statement.{statement}

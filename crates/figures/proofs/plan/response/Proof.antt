@@ -1,7 +1,8 @@
 -- `response` is `responseAt`: the i-th of the responses is the i-th module's, and there is none past the last.
 use mathlib.Core.Path.{sym}
 use Rattle.modules.specs.Model.{chainOf}
-use Rattle.figures.specs.Plan.{modulesOf, responseAt}
+use Rattle.layout.specs.Layout.{modulesOf}
+use Rattle.figures.specs.Plan.{responseAt}
 use Rattle.figures.proofs.Listed.{response-some, response-none}
 use borrow.Author.Needs.{needs}
 use Rattle.figures.proofs.plan.response.Statement.{statement}

@@ -3,8 +3,9 @@ use mathlib.Core.Path.{_≡_, sym, _∙_}
 use Prim.Native.Nat.{_+_, _-_, _≤_, _<_}
 use native.Mathlib.Omega.{arith}
 use Rattle.modules.specs.Model.{chainOf}
+use Rattle.layout.specs.Layout.{modulesFrom}
 use Rattle.figures.specs.Model.{slowestFrom, bottleneck}
-use Rattle.figures.specs.Plan.{modulesFrom, coresBefore}
+use Rattle.figures.specs.Plan.{coresBefore}
 use Rattle.figures.proofs.Listed.{slowest-start, slowest-next, slowest-end, slower-keeps}
 use Rattle.figures.proofs.plan.slowest_of.Statement.{statement}
 use Rattle.figures.proofs.plan.slowest_of.Tie as tie

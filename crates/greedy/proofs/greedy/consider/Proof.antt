@@ -7,7 +7,7 @@ use lib.ListN.{length}
 use borrow.Author.Needs.{needs}
 use Rattle.modules.specs.declared.Module.{Module}
 use Rattle.modules.specs.Model.{Chain, chainOf}
-use Rattle.figures.specs.Plan.{modulesOf}
+use Rattle.layout.specs.Layout.{modulesOf}
 use Rattle.figures.proofs.Listed.{modules-length}
 use Rattle.greedy.proofs.Bytes.{byte-most}
 use Rattle.greedy.proofs.Choosing.{considered-none, considered-first, considered-more, considered-less}

@@ -3,9 +3,9 @@ use mathlib.Core.Path.{_≡_, refl, sym, ap, _∙_}
 use native.Mathlib.Omega.{arith}
 use borrow.Author.Needs.{needs}
 use Rattle.modules.specs.Model.{Chain, chainOf}
+use Rattle.layout.specs.Layout.{encode, modulesOf}
+use Rattle.layout.proofs.Placing.{put-room}
 use Rattle.figures.specs.Model.{coresOf}
-use Rattle.figures.specs.Plan.{encode, modulesOf}
-use Rattle.figures.proofs.Placing.{put-room}
 use Rattle.greedy.specs.Greedy.{start}
 use Rattle.greedy.specs.Assignment.{Assigned}
 use Rattle.greedy.proofs.Answering.{on-grouping, on-cores, on-walk, bytes-kept}

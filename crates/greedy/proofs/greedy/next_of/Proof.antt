@@ -8,9 +8,10 @@ use lib.ListN.{length}
 use borrow.Author.Needs.{needs}
 use Rattle.modules.specs.declared.Module.{Module}
 use Rattle.modules.specs.Model.{Chain, chainOf}
+use Rattle.layout.specs.Layout.{modulesOf}
 use Rattle.figures.specs.declared.Answer.{Answer}
 use Rattle.figures.specs.Model.{bottleneck}
-use Rattle.figures.specs.Plan.{modulesOf, figuresOf}
+use Rattle.figures.specs.Plan.{figuresOf}
 use Rattle.greedy.specs.Greedy.{predecessor}
 use Rattle.greedy.specs.Assignment.{choiceOf}
 use Rattle.greedy.proofs.Choosing.{chosen-nothing, slowest-number, before-first, before-later, next-is}

@@ -1,7 +1,7 @@
 -- `walk` is `greedyFrom`: what is left of the walk, from the latest assignment and the best so far, ends as the whole does.
 use native.Mathlib.Omega.{arith}
 use Rattle.modules.specs.Model.{Chain, chainOf}
-use Rattle.figures.specs.Plan.{modulesOf}
+use Rattle.layout.specs.Layout.{modulesOf}
 use Rattle.greedy.specs.Greedy.{greedyFrom}
 use Rattle.greedy.proofs.Walking.{Underway, walk-starts, walk-ended, walk-stopped, walk-better, walk-worse}
 use Rattle.greedy.proofs.greedy.walk.Statement.{statement}

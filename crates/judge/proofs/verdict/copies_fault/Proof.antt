@@ -4,9 +4,10 @@ use Prim.Native.Nat.{_+_, _-_, _≤_}
 use native.Mathlib.Nat.{sub-zero}
 use native.Mathlib.Omega.{arith}
 use Rattle.modules.specs.Model.{chainOf}
-use Rattle.figures.specs.Plan.{modulesFrom}
+use Rattle.layout.specs.Layout.{modulesFrom}
+use Rattle.layout.proofs.Turns.{record-here}
 use Rattle.figures.specs.Judge.{firstFailing, copiesTest}
-use Rattle.figures.proofs.Turns.{record-here, failing-here, failing-next, failing-end}
+use Rattle.figures.proofs.Turns.{failing-here, failing-next, failing-end}
 use Rattle.judge.proofs.verdict.copies_fault.Statement.{statement}
 use Rattle.judge.proofs.verdict.copies_fault.Tie as tie
 

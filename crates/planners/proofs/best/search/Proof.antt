@@ -4,8 +4,8 @@ use mathlib.Core.Path.{refl, _∙_}
 use native.Mathlib.Omega.{arith}
 use borrow.Author.Needs.{needs}
 use Rattle.modules.specs.Model.{chainOf}
-use Rattle.figures.specs.Plan.{encode}
-use Rattle.figures.proofs.Placing.{put-room}
+use Rattle.layout.specs.Layout.{encode}
+use Rattle.layout.proofs.Placing.{put-room}
 use Rattle.planners.specs.Search.{topThreshold}
 use Rattle.planners.proofs.Laying.{light-feasible, feasible-light}
 use Rattle.planners.proofs.Serving.{zero-holds, none-answer, none-bytes, plan-answer, plan-bytes}

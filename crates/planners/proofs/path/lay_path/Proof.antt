@@ -8,8 +8,8 @@ use borrow.Author.Needs.{needs}
 use lib.ListN.{length}
 use Rattle.records.proofs.Bounds.{product-of-bytes}
 use Rattle.modules.specs.Model.{chainOf}
-use Rattle.figures.specs.Plan.{mostModules}
-use Rattle.figures.proofs.Shapes.{encode-length}
+use Rattle.layout.specs.Layout.{mostModules}
+use Rattle.layout.proofs.Placing.{encode-length}
 use Rattle.planners.proofs.Laying.{Laid, laid-start, laid-length, laid-end, next-some, next-later, next-fits, laid-next}
 use Rattle.planners.proofs.path.lay_path.Statement.{statement}
 use Rattle.planners.proofs.path.lay_path.Tie as tie

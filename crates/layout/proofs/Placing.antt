@@ -8,8 +8,13 @@ use lib.ListN.{length, drop}
 use lib.Seq.{sets}
 use borrow.Author.Tests.{lt-ltb, le-leb}
 use Rattle.modules.specs.declared.Module.{Module}
-use Rattle.figures.specs.Plan.{mostModules, planBytes, encode, encodePlan, putModule, putPlan}
-use Rattle.figures.proofs.Shapes.{encode-length}
+use Rattle.layout.specs.Layout.{mostModules, planBytes, encode, encodePlan, putModule, putPlan}
+
+pub encode-length : (n : ℕ) (ms : List Module) → length (encode n ms) ≡ 4 * n
+unfolding encode
+encode-length zero ms = refl
+encode-length (suc n) [] = omega (arith, encode-length n [])
+encode-length (suc n) (m ∷ ms) = omega (arith, encode-length n ms)
 
 -- ---- a module after the others
 

@@ -1,8 +1,8 @@
 -- `record_at` is `moduleAt`, byte by byte.
 use mathlib.Core.Path.{refl}
 use borrow.Author.Needs.{needs}
-use Rattle.figures.proofs.plan.record_at.Statement.{statement}
-use Rattle.figures.proofs.plan.record_at.Tie as tie
+use Rattle.layout.proofs.layout.record_at.Statement.{statement}
+use Rattle.layout.proofs.layout.record_at.Tie as tie
 
 mul-at : tie.Need-mul-at
 mul-at c = search needs

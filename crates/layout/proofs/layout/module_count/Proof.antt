@@ -2,10 +2,10 @@
 use mathlib.Core.Path.{_≡_, refl, sym, _∙_}
 use Prim.Native.Nat.{_-_, _≤_}
 use native.Mathlib.Omega.{arith}
-use Rattle.figures.specs.Plan.{mostModules, countFrom, moduleCount}
-use Rattle.figures.proofs.Turns.{count-here, count-next, count-end}
-use Rattle.figures.proofs.plan.module_count.Statement.{statement}
-use Rattle.figures.proofs.plan.module_count.Tie as tie
+use Rattle.layout.specs.Layout.{mostModules, countFrom, moduleCount}
+use Rattle.layout.proofs.Turns.{count-here, count-next, count-end}
+use Rattle.layout.proofs.layout.module_count.Statement.{statement}
+use Rattle.layout.proofs.layout.module_count.Tie as tie
 
 abbrev Inv-loop : tie.InvT-loop
 Inv-loop plan k i₀ i = (i ≤ mostModules) × (moduleCount plan k ≡ countFrom plan k i (mostModules - i))

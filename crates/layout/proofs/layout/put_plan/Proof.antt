@@ -9,10 +9,10 @@ use borrow.Author.Needs.{needs}
 use borrow.Author.Tests.{lt-leb}
 use lib.ListN.{length, take, drop, length-set}
 use lib.Seq.{paste-suc, take-all}
-use Rattle.figures.specs.Plan.{planBytes, putPlan}
-use Rattle.figures.proofs.Placing.{put-room}
-use Rattle.figures.proofs.plan.put_plan.Statement.{statement}
-use Rattle.figures.proofs.plan.put_plan.Tie as tie
+use Rattle.layout.specs.Layout.{planBytes, putPlan}
+use Rattle.layout.proofs.Placing.{put-room}
+use Rattle.layout.proofs.layout.put_plan.Statement.{statement}
+use Rattle.layout.proofs.layout.put_plan.Tie as tie
 
 abbrev Inv-loop : tie.InvT-loop
 Inv-loop plan₀ from i₀ plan i =

@@ -2,8 +2,8 @@
 use mathlib.Core.Path.{sym}
 use lib.ListN.{List·getD-eq-default}
 use borrow.Author.Needs.{needs}
-use Rattle.figures.proofs.plan.byte_at.Statement.{statement}
-use Rattle.figures.proofs.plan.byte_at.Tie as tie
+use Rattle.layout.proofs.layout.byte_at.Statement.{statement}
+use Rattle.layout.proofs.layout.byte_at.Tie as tie
 
 shared-slice-read-result : tie.Need-shared-slice-read-result
 shared-slice-read-result c = search needs

@@ -1,9 +1,9 @@
 -- `module_at` is `recordOf`: the test of the index decides which branch is due.
 use borrow.Author.Tests.{lt-ltb, le-ltb}
 use borrow.Author.Needs.{needs}
-use Rattle.figures.specs.Plan.{recordOf}
-use Rattle.figures.proofs.plan.module_at.Statement.{statement}
-use Rattle.figures.proofs.plan.module_at.Tie as tie
+use Rattle.layout.specs.Layout.{recordOf}
+use Rattle.layout.proofs.layout.module_at.Statement.{statement}
+use Rattle.layout.proofs.layout.module_at.Tie as tie
 
 record-at-requires : tie.Need-record-at-requires
 record-at-requires c κs = search needs

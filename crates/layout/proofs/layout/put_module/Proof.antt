@@ -5,10 +5,10 @@ use Prim.Native.Nat.{suc, _+_, _*_}
 use native.Mathlib.Omega.{arith}
 use lib.ListN.{length-set}
 use borrow.Author.Tests.{lt-ltb, le-ltb, le-leb, lt-leb}
-use Rattle.figures.specs.Plan.{mostModules, putModule}
+use Rattle.layout.specs.Layout.{mostModules, putModule}
 use borrow.Author.Needs.{needs}
-use Rattle.figures.proofs.plan.put_module.Statement.{statement}
-use Rattle.figures.proofs.plan.put_module.Tie as tie
+use Rattle.layout.proofs.layout.put_module.Statement.{statement}
+use Rattle.layout.proofs.layout.put_module.Tie as tie
 
 mul-at : tie.Need-mul-at
 mul-at c = search needs
