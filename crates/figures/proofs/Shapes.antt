@@ -14,6 +14,7 @@ use borrow.Author.Tests.{eq-eqb, ne-eqb, le-leb, eqb-true, eqb-false, leb-true}
 use Rattle.records.proofs.Cases.{true-or-false, and-true}
 use Rattle.modules.specs.declared.Module.{Module}
 use Rattle.layout.proofs.Placing.{encode-length}
+use Rattle.layout.proofs.Turns.{count-found, count-on}
 use Rattle.layout.specs.Layout.{mostModules, planBytes, moduleAt, countFrom, moduleCount, modulesFrom, modulesOf, encode, encodePlan}
 use Rattle.figures.specs.Rules.{covers}
 use Rattle.figures.specs.Judge.{isBlank, isModule, blankFault, shapeFault}
@@ -38,20 +39,12 @@ take-record w i n h =
 -- ---- the records up to the one that ends at k
 
 module _ (w : List ℕ) (k : ℕ) where
-  count-here : (i n : ℕ) → moduleAt w i .last ≡ k → countFrom w k i (suc n) ≡ i + 1
-  unfolding countFrom
-  count-here i n e = simp (eq-eqb (moduleAt w i .last) k e)
-
-  count-next : (i n : ℕ) → (moduleAt w i .last ≡ k → ⊥) → countFrom w k i (suc n) ≡ countFrom w k (i + 1) n
-  unfolding countFrom
-  count-next i n e = simp (ne-eqb (moduleAt w i .last) k e)
-
   count-ge : (n i : ℕ) → i ≤ countFrom w k i n
   unfolding countFrom
   count-ge zero i = omega arith
   count-ge (suc n) i = ⊎-elim
-      (λ t. let e = eqb-true (moduleAt w i .last) k t in omega (arith, count-here i n e))
-      (λ t. let e = eqb-false (moduleAt w i .last) k t in omega (arith, count-next i n e, count-ge n (i + 1)))
+      (λ t. let e = eqb-true (moduleAt w i .last) k t in omega (arith, count-found w k i n e))
+      (λ t. let e = eqb-false (moduleAt w i .last) k t in omega (arith, count-on w k i n e, count-ge n (i + 1)))
       (true-or-false (eqb (moduleAt w i .last) k))
 
   -- the modules from record i on, of which there are n
@@ -60,12 +53,12 @@ module _ (w : List ℕ) (k : ℕ) where
 
   rest-here : (i n : ℕ) → moduleAt w i .last ≡ k → rest i (suc n) ≡ moduleAt w i ∷ []
   unfolding modulesFrom
-  rest-here i n e = let d : countFrom w k i (suc n) - i ≡ 1 = omega (arith, count-here i n e) in rw d
+  rest-here i n e = let d : countFrom w k i (suc n) - i ≡ 1 = omega (arith, count-found w k i n e) in rw d
 
   rest-next : (i n : ℕ) → (moduleAt w i .last ≡ k → ⊥) → rest i (suc n) ≡ moduleAt w i ∷ rest (i + 1) n
   unfolding modulesFrom
   rest-next i n e =
-      let d : countFrom w k i (suc n) - i ≡ suc (countFrom w k (i + 1) n - (i + 1)) = omega (arith, count-next i n e, count-ge n (i + 1)) in
+      let d : countFrom w k i (suc n) - i ≡ suc (countFrom w k (i + 1) n - (i + 1)) = omega (arith, count-on w k i n e, count-ge n (i + 1)) in
       rw d
 
   rest-all : rest 0 mostModules ≡ modulesOf w k
