@@ -1,14 +1,12 @@
--- What holds of plans and of Judge (document 01, "The chain and the board", "Plan bytes", refusals 7 and 12 to 15): the laws
--- that a reader looks for, and that the layers above cite. The definitions are in specs/; `Claims` has the direct statements.
--- Assumes nothing.
-use mathlib.Core.Path.{_≡_, refl, ap}
+-- What holds of plans (document 01, "The chain and the board", "Plan bytes"): the laws that a reader looks for, and that the layers
+-- above cite. The definitions are in specs/; `Claims` has the direct statements. Assumes nothing.
+use mathlib.Core.Path.{_≡_, refl}
 use mathlib.Core.Bool.{true}
 use mathlib.Core.List.{List, _∷_, List·Memᴰ}
-use mathlib.Core.Logic.{_↔_}
 use Prim.Native.Nat.{ℕ, _-_, _*_, _≤_}
 use native.Mathlib.Nat.{mul-le-mul-right}
 use native.Mathlib.Omega.{arith}
-use lib.ListN.{length, take}
+use lib.ListN.{length}
 use Rattle.records.specs.declared.Board.{Board}
 use Rattle.records.specs.Costs.{mostCores, mostValue}
 use Rattle.records.specs.Format.{IsCosts}
@@ -16,37 +14,21 @@ use Rattle.modules.specs.declared.Module.{Module}
 use Rattle.modules.specs.Model.{Chain, chainOf}
 use Rattle.layout.specs.Layout.{mostModules, planBytes, modulesOf, encodePlan}
 use Rattle.layout.proofs.Placing as placing
-use Rattle.figures.specs.declared.Answer.{Answer}
 use Rattle.figures.specs.declared.Slowest.{Slowest}
 use Rattle.figures.specs.Model.{bottleneck}
 use Rattle.figures.specs.Rules.{covers, keepsRules}
-use Rattle.figures.specs.Plan.{figuresOf}
-use Rattle.figures.specs.Judge.{shapeFault, judged}
-use Rattle.figures.specs.Claims.{loads, IsBottleneck, chain, Judges, Passes}
+use Rattle.figures.specs.Claims.{loads, IsBottleneck}
 use Rattle.figures.proofs.Covering as covering
+use Rattle.figures.proofs.Decoding as decoding
+use Rattle.figures.proofs.Kept as kept
 use Rattle.figures.proofs.Limits as limits
-use Rattle.figures.proofs.Passing as passing
-use Rattle.figures.proofs.Shapes as shapes
 use Rattle.figures.proofs.Tops as tops
-
--- ---- Judge: each answer exactly under its condition; passed exactly if the bytes are a plan's that keeps the rules, with its figures
-
-module _ (s w : List ℕ) where
-  pub judge-exactly : (a : Answer) → (judged s w ≡ a) ↔ Judges s w a
-  judge-exactly a = (λ e. rw e at (passing.judge-finds s w), passing.judge-only s w a)
-
-  pub judge-passes : (judged s w .number ≡ 0) ↔ Passes s w
-  unfolding figuresOf
-  judge-passes = (passing.number-passes s w, λ p. ap (λ (a : Answer). a .number) (passing.passes-figures s w p))
-
-  pub judge-figures : (p : Passes s w) → judged s w ≡ figuresOf (chain s w) (p .modules)
-  judge-figures = passing.passes-figures s w
 
 -- ---- plan bytes: encoding and decoding undo each other, on plans that keep the rules of accepted costs
 
 module _ (s : List ℕ) (b : Board) (c : IsCosts s b) (ms : List Module) (keeps : keepsRules (chainOf s b) ms ≡ true) where
   covered : covers (b .tasks) 1 ms ≡ true
-  covered = passing.keeps-parts (chainOf s b) ms keeps .0
+  covered = kept.keeps-parts (chainOf s b) ms keeps .0
 
   pub plan-modules : length ms ≤ mostModules
   plan-modules = omega (arith, covering.covers-length (b .tasks) 1 ms covered, c .ranged .most-tasks)
@@ -55,13 +37,13 @@ module _ (s : List ℕ) (b : Board) (c : IsCosts s b) (ms : List Module) (keeps 
   plan-bytes = placing.encode-length mostModules ms
 
   pub decode-encode : modulesOf (encodePlan ms) (b .tasks) ≡ ms
-  decode-encode = shapes.decode-encode (b .tasks) ms (c .ranged .some-tasks) (c .ranged .most-tasks) covered
+  decode-encode = decoding.decode-encode (b .tasks) ms (c .ranged .some-tasks) (c .ranged .most-tasks) covered
 
   -- r and p are at most 32, and no response is above 23 values
   pub plan-limits : (m : Module) → List·Memᴰ m ms → (m .copies ≤ mostCores) × (m .cores ≤ mostCores)
   plan-limits m i =
       let h = limits.module-cores (b .tasks) 1 ms covered m i in
-      let g = passing.keeps-parts (chainOf s b) ms keeps .2 in
+      let g = kept.keeps-parts (chainOf s b) ms keeps .2 in
       omega (arith, c .ranged .most-cores)
 
   pub plan-responses : (x : Slowest) → List·Memᴰ x (loads (chainOf s b) 0 1 ms) → x .response ≤ 23000000
@@ -79,9 +61,6 @@ module _ (s : List ℕ) (b : Board) (c : IsCosts s b) (ms : List Module) (keeps 
         limits.bottleneck-most (chainOf s b) mostValue (b .tasks) ms (limits.costs-most s b c) covered,
         mul-le-mul-right {m = 2 * b .tasks - 1} {n = 23} mostValue (omega (arith, c .ranged .most-tasks)),
       )
-
-pub encode-decode : (k : ℕ) (w : List ℕ) → planBytes ≤ length w → shapeFault k w 1 0 mostModules ≡ 0 → encodePlan (modulesOf w k) ≡ take planBytes w
-encode-decode k w h e = shapes.shape-plan k w h e .1
 
 -- ---- the bottleneck is the first module that reaches the greatest response ÷ copies
 

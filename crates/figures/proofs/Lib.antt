@@ -1,10 +1,9 @@
 pub mod Covering
-pub mod Faults
+pub mod Decoding
 pub mod Fractions
+pub mod Kept
 pub mod Laws
 pub mod Limits
 pub mod Listed
-pub mod Passing
-pub mod Shapes
+pub mod Served
 pub mod Tops
-pub mod Turns

@@ -1,5 +1,4 @@
 pub mod Claims
-pub mod Judge
 pub mod Model
 pub mod Plan
 pub mod Rules

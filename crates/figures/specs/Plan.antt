@@ -30,6 +30,10 @@ figuresOf c ms =
     let x = bottleneck c ms in
     record { number = 0; place = 0; modules = length ms; cores = coresOf ms; slowest = x .number; copies = x .copies; response = x .response }
 
+-- a refusal of any service, by its number and place: zero figures
+abbrev pub refusal : ℕ → ℕ → Answer
+refusal number place = record { number = number; place = place; modules = 0; cores = 0; slowest = 0; copies = 0; response = 0 }
+
 -- the response of the i-th module, counted from 0; 0 where there is none
 unfoldable pub responseAt : Chain → List Module → ℕ → ℕ
 responseAt c ms i = getD (responses c 0 ms) i 0

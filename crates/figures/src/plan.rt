@@ -6,32 +6,33 @@ ghost use lib.Dec.{ltb};
 ghost use Rattle.modules.specs.Model.{chainOf};
 ghost use Rattle.layout.specs.Layout.{mostModules, moduleAt, modulesFrom, modulesOf};
 ghost use Rattle.figures.specs.Model.{coresOf, slowerOf, bottleneck};
-ghost use Rattle.figures.specs.Plan.{coresBefore, slownessAt, figuresOf, responseAt};
-ghost use Rattle.figures.specs.Judge.{refusal};
+ghost use Rattle.figures.specs.Plan.{coresBefore, slownessAt, figuresOf, refusal, responseAt};
 use crate::Answer;
 use crate::Slowest;
+use layout::module_at;
 use layout::module_count;
-use layout::record_at;
 use modules::response_of;
 use records::Board;
 
 // The cores of a copy of the module before the i-th, 0 for the first.
 fn cores_before(plan: &[u8], i: u32) -> u8
+    requires { ⌜ i ≤ mostModules ⌝ }
     ensures { λ r. ⌜ r ≡ coresBefore (now (plan .entry)) i ⌝ }
 {
     if i == 0 {
         return 0;
     }
-    let m = record_at(plan, i - 1);
+    let m = module_at(plan, i - 1);
     m.cores
 }
 
 // The cores of a copy of the i-th of count modules, 0 where there is none.
 fn cores_at(plan: &[u8], count: u32, i: u32) -> u8
+    requires { ⌜ count ≤ mostModules ⌝ }
     ensures { λ r. ⌜ r ≡ cond (ltb i count) (moduleAt (now (plan .entry)) i .cores) 0 ⌝ }
 {
     if i < count {
-        let m = record_at(plan, i);
+        let m = module_at(plan, i);
         return m.cores;
     }
     0
@@ -42,7 +43,7 @@ fn slowness(costs: &[u8], board: Board, plan: &[u8], count: u32, i: u32) -> Slow
     requires { ⌜ (i < count) × (count ≤ mostModules) ⌝ }
     ensures { λ r. ⌜ (r ≡ slownessAt (chainOf (now (costs .entry)) board) (now (plan .entry)) count i) × (r .response < 8796093022208) × (r .copies < 256) ⌝ }
 {
-    let m = record_at(plan, i);
+    let m = module_at(plan, i);
     let s = cores_before(plan, i);
     let q = cores_at(plan, count, i + 1);
     Slowest {
@@ -93,7 +94,7 @@ fn cores_of(plan: &[u8], count: u32) -> u32
     let mut sum: u32 = 0;
     let mut i: u32 = 0;
     while i < count {
-        let m = record_at(plan, i);
+        let m = module_at(plan, i);
         sum += (m.copies as u32) * (m.cores as u32);
         i += 1;
     }

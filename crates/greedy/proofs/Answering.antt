@@ -17,12 +17,12 @@ use Rattle.layout.specs.Layout.{mostModules, planBytes, modulesOf, encodePlan}
 use Rattle.layout.proofs.Placing.{encode-length}
 use Rattle.figures.specs.declared.Answer.{Answer}
 use Rattle.figures.specs.Model.{coresOf}
-use Rattle.figures.specs.Plan.{figuresOf}
-use Rattle.figures.specs.Judge.{refusal, judged}
-use Rattle.figures.specs.Claims.{Readable, chain}
-use Rattle.figures.proofs.Laws.{judge-figures}
-use Rattle.figures.proofs.Passing.{keeps-parts}
-use Rattle.figures.proofs.Shapes.{decode-encode}
+use Rattle.figures.specs.Plan.{figuresOf, refusal}
+use Rattle.figures.proofs.Kept.{keeps-parts}
+use Rattle.figures.proofs.Decoding.{decode-encode}
+use Rattle.judge.specs.Judge.{judged}
+use Rattle.judge.specs.Claims.{Readable, chain}
+use Rattle.judge.proofs.Laws.{judge-figures}
 use Rattle.greedy.specs.Greedy.{start, greedyFrom, greedyPlan, greedyOn, greedyAnswer, greedyBytesOn, greedyBytes}
 use Rattle.greedy.proofs.Keeping.{plan-keeps}
 
@@ -41,7 +41,7 @@ module _ (c : Chain) (g : ℕ) where
     unfolding greedyOn
     on-cores l = simp (lt-ltb g (2 ^ (c .tasks - 1)) h, lt-leb (coresOf (start c g)) (c .board) l)
 
-    on-plan : coresOf (start c g) ≤ c .board → greedyOn c g ≡ figuresOf c (greedyPlan c g)
+    pub on-plan : coresOf (start c g) ≤ c .board → greedyOn c g ≡ figuresOf c (greedyPlan c g)
     unfolding greedyOn
     on-plan l = simp (lt-ltb g (2 ^ (c .tasks - 1)) h, le-leb (coresOf (start c g)) (c .board) l)
 
@@ -49,7 +49,7 @@ module _ (c : Chain) (g : ℕ) where
   unfolding greedyBytesOn
   bytes-kept w e h = simp (ne-eqb (greedyOn c g .number) 0 (λ z. h (sym (ap number-of e) ∙ z)))
 
-  bytes-filled : (w : List ℕ) → greedyOn c g ≡ figuresOf c (greedyPlan c g) → greedyBytesOn c g w ≡ encodePlan (greedyPlan c g) ++ drop planBytes w
+  pub bytes-filled : (w : List ℕ) → greedyOn c g ≡ figuresOf c (greedyPlan c g) → greedyBytesOn c g w ≡ encodePlan (greedyPlan c g) ++ drop planBytes w
   unfolding greedyBytesOn figuresOf
   bytes-filled w e = simp (eq-eqb (greedyOn c g .number) 0 (ap number-of e))
 
@@ -91,7 +91,7 @@ module _ (s w : List ℕ) (g : ℕ) where
   not-refused : {A : Type 0} {n p : ℕ} → greedyAnswer s g w .number ≡ 0 → greedyAnswer s g w ≡ refusal n p → (n ≡ 0 → ⊥) → A
   not-refused z e h = absurd (h (sym (ap number-of e) ∙ z))
 
-  readable : greedyAnswer s g w .number ≡ 0 → Readable s w
+  pub readable : greedyAnswer s g w .number ≡ 0 → Readable s w
   readable z = ⊎-elim
       (λ t. let a = eqb-true (readCosts s .number) 0 t in
       ⊎-elim (λ l. not-refused z (answer-short a l .0) (λ e. omega arith)) (λ l. record { accepted = a; long = l }) (lt-or-le (length w) planBytes))
@@ -115,7 +115,7 @@ module _ (s w : List ℕ) (g : ℕ) where
       answer-plan : greedyAnswer s g w ≡ figuresOf (chain s w) (greedyPlan (chain s w) g)
       answer-plan = answer-on r .0 ∙ on-plan (chain s w) g (grouped z) (fitting z)
 
-      answer-bytes : greedyBytes s g w ≡ encodePlan (greedyPlan (chain s w) g) ++ drop planBytes w
+      pub answer-bytes : greedyBytes s g w ≡ encodePlan (greedyPlan (chain s w) g) ++ drop planBytes w
       answer-bytes = answer-on r .1 ∙ bytes-filled (chain s w) g w (on-plan (chain s w) g (grouped z) (fitting z))
 
       bytes-judged : judged s (greedyBytes s g w) ≡ figuresOf (chain s w) (greedyPlan (chain s w) g)

@@ -10,7 +10,7 @@ use Rattle.layout.specs.Layout.{mostModules, modulesOf, encode, encodePlan}
 use Rattle.figures.specs.Model.{coresOf}
 use Rattle.figures.specs.Rules.{covers}
 use Rattle.figures.proofs.Covering.{covers-length}
-use Rattle.figures.proofs.Shapes.{decode-encode}
+use Rattle.figures.proofs.Decoding.{decode-encode}
 use Rattle.greedy.specs.Greedy.{give}
 use Rattle.greedy.specs.Assignment.{Single, Assigned}
 use Rattle.greedy.proofs.Giving.{give-covers, give-single}

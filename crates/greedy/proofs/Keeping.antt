@@ -13,11 +13,11 @@ use borrow.Author.Tests.{le-leb, leb-true}
 use Rattle.records.proofs.Cases.{true-or-false}
 use Rattle.modules.specs.declared.Module.{Module}
 use Rattle.modules.specs.Model.{Chain, gather, nothing}
-use Rattle.modules.specs.Rules.{memoryFits, copiesAllowed, moduleRules, fewestFrom, fewestCores}
+use Rattle.modules.specs.Rules.{memoryFits, copiesAllowed, moduleRules, fewestCores}
+use Rattle.modules.proofs.Laws.{fewest-least}
 use Rattle.figures.specs.Model.{coresOf}
 use Rattle.figures.specs.Rules.{covers, eachAllowed, keepsRules}
-use Rattle.figures.specs.Judge.{copiesTest, memoryTest}
-use Rattle.figures.proofs.Passing.{allowed-head}
+use Rattle.figures.proofs.Kept.{allowed-head}
 use Rattle.greedy.specs.Greedy.{bit, least, startFrom, start, give, next, visited, greedyPlan}
 use Rattle.greedy.specs.Assignment.{Single}
 use Rattle.greedy.proofs.Choosing.{Holds, next-holds}
@@ -35,21 +35,13 @@ module _ (c : Chain) where
       let sum = gather (c .need) nothing first last in
       le-leb sum ((p + 1) * c .capacity) (omega (arith, leb-true sum (p * c .capacity) e, mul-le-mul-right {m = p} {n = p + 1} (c .capacity) (omega arith)))
 
-  fewest-fits : (first last n p : ℕ) → fewestFrom c first last p n ≤ p + n → memoryFits c first last (fewestFrom c first last p n) ≡ true
-  unfolding fewestFrom
-  fewest-fits first last zero p h = absurd (omega arith)
-  fewest-fits first last (suc n) p h = ⊎-elim
-      (λ (t : memoryFits c first last (p + 1) ≡ true). rw (t, t))
-      (λ (t : memoryFits c first last (p + 1) ≡ false). rw t (fewest-fits first last n (p + 1) (omega (arith, rw t at h))))
-      (true-or-false (memoryFits c first last (p + 1)))
-
   memory-least : (first last : ℕ) → fewestCores c first last ≤ c .board → memoryFits c first last (fewestCores c first last) ≡ true
-  unfolding fewestCores
-  memory-least first last h = fewest-fits first last (c .board) 0 (omega arith)
+  memory-least first last h = fewest-least c first last (fewestCores c first last) h .0 refl .fits
 
   -- ---- the rules of each module
 
-  allowed-cons : (m : Module) (ms : List Module) → copiesTest c m ≡ true → memoryTest c m ≡ true → eachAllowed c ms ≡ true → eachAllowed c (m ∷ ms) ≡ true
+  allowed-cons : (m : Module) (ms : List Module) → copiesAllowed c (m .first) (m .last) (m .copies) ≡ true → memoryFits c (m .first) (m .last) (m .cores) ≡ true
+      → eachAllowed c ms ≡ true → eachAllowed c (m ∷ ms) ≡ true
   unfolding eachAllowed moduleRules
   allowed-cons m ms a b e = simp (a, b, e)
 

@@ -3,7 +3,7 @@
 use mathlib.Core.Path.{_≡_}
 use mathlib.Core.Bool.{true}
 use mathlib.Core.List.{List, List·Memᴰ}
-use mathlib.Core.Logic.{_↔_}
+use mathlib.Core.Logic.{_↔_, Iff·trans}
 use Prim.Native.Nat.{ℕ, _-_, _^_, _≤_, _<_}
 use Rattle.records.specs.declared.Board.{Board}
 use Rattle.records.specs.Format.{IsCosts}
@@ -11,10 +11,12 @@ use Rattle.modules.specs.declared.Module.{Module}
 use Rattle.modules.specs.Model.{Chain, chainOf}
 use Rattle.figures.specs.Model.{coresOf}
 use Rattle.figures.specs.Rules.{keepsRules}
-use Rattle.figures.specs.Judge.{refusal, judged}
-use Rattle.figures.specs.Claims.{Readable, chain}
-use Rattle.greedy.specs.Greedy.{start, time, visited, IsEarliest, greedyPlan, greedyAnswer, greedyBytes}
+use Rattle.figures.specs.Plan.{refusal}
+use Rattle.judge.specs.Judge.{judged}
+use Rattle.judge.specs.Claims.{Readable, chain}
+use Rattle.greedy.specs.Greedy.{SomeBit, start, time, visited, IsEarliest, greedyPlan, greedyAnswer, greedyBytes}
 use Rattle.greedy.proofs.Answering as answering
+use Rattle.greedy.proofs.Bits as bits
 use Rattle.greedy.proofs.Earliest as earliest
 use Rattle.greedy.proofs.Keeping as keeping
 use Rattle.greedy.proofs.Visiting as visiting
@@ -49,6 +51,10 @@ module _ (c : Chain) (g : ℕ) where
 module _ (s w : List ℕ) (g : ℕ) (r : Readable s w) where
   pub refusal-10 : (greedyAnswer s g w ≡ refusal 10 0) ↔ (2 ^ (chain s w .tasks - 1) ≤ g)
   refusal-10 = answering.refused-grouping s w g r
+
+  -- document 01's words: "a grouping bit at k − 1 or above"
+  pub refusal-10-bits : (greedyAnswer s g w ≡ refusal 10 0) ↔ SomeBit g (chain s w .tasks - 1)
+  refusal-10-bits = Iff·trans refusal-10 (bits.some-bit g (chain s w .tasks - 1))
 
   pub refusal-11 : g < 2 ^ (chain s w .tasks - 1) → (greedyAnswer s g w ≡ refusal 11 0) ↔ (chain s w .board < coresOf (start (chain s w) g))
   refusal-11 = answering.refused-cores s w g r

@@ -1,4 +1,5 @@
 pub mod Answering
+pub mod Bits
 pub mod Bytes
 pub mod Choosing
 pub mod Earliest
@@ -6,6 +7,7 @@ pub mod Filling
 pub mod Giving
 pub mod Keeping
 pub mod Laws
+pub mod Lending
 pub mod Starting
 pub mod Visiting
 pub mod Walking

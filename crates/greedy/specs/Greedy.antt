@@ -4,7 +4,7 @@ use Prim.Native.Nat.{ℕ, zero, suc, _+_, _-_, _/_, _%_, _^_, _≤_, _<_}
 use mathlib.Core.Path.{_≡_}
 use mathlib.Core.List.{List, [], _∷_, _++_, List·Memᴰ}
 use mathlib.Core.Option.{Option, none, some}
-use mathlib.Core.Bool.{Bool, cond, _&&_}
+use mathlib.Core.Bool.{Bool, true, cond, _&&_}
 use lib.ListN.{length, drop}
 use lib.Dec.{ltb, leb, eqb}
 use Rattle.records.specs.Costs.{readCosts}
@@ -14,14 +14,19 @@ use Rattle.modules.specs.Rules.{fewestCores}
 use Rattle.layout.specs.Layout.{planBytes, encodePlan}
 use Rattle.figures.specs.declared.Answer.{Answer}
 use Rattle.figures.specs.Model.{coresOf, bottleneck}
-use Rattle.figures.specs.Plan.{figuresOf}
-use Rattle.figures.specs.Judge.{refusal}
+use Rattle.figures.specs.Plan.{figuresOf, refusal}
 
 -- ---- step 1: each module has the fewest cores that its memory allows
 
 -- bit i of the grouping, counted from 0: a module ends after task i + 1
 unfoldable pub bit : ℕ → ℕ → Bool
 bit g i = eqb (g / 2 ^ i % 2) 1
+
+-- some bit at k or above is set
+pub record SomeBit (g k : ℕ) : Type 0 where
+  pub at : ℕ
+  pub high : k ≤ at
+  pub set : bit g at ≡ true
 
 abbrev pub least : Chain → ℕ → ℕ → Module
 least c first last = record { first = first; last = last; copies = 1; cores = fewestCores c first last }
@@ -111,12 +116,11 @@ greedyAnswer s g w =
     (cond (leb planBytes (length w)) (greedyOn (chainOf s (r .board)) g) (refusal 7 0))
     (refusal (r .number) (r .place))
 
--- what the plan bytes w are after the answer a with the plan ms: as lent where it refuses
-abbrev pub filled : Answer → List Module → List ℕ → List ℕ
-filled a ms w = cond (eqb (a .number) 0) (encodePlan ms ++ drop planBytes w) w
-
+-- what the plan bytes w are afterwards: the plan's and what lay behind them, or as lent where it refuses
 unfoldable pub greedyBytesOn : Chain → ℕ → List ℕ → List ℕ
-greedyBytesOn c g w = filled (greedyOn c g) (greedyPlan c g) w
+greedyBytesOn c g w = cond (eqb (greedyOn c g .number) 0) (encodePlan (greedyPlan c g) ++ drop planBytes w) w
 
 unfoldable pub greedyBytes : List ℕ → ℕ → List ℕ → List ℕ
-greedyBytes s g w = filled (greedyAnswer s g w) (greedyPlan (chainOf s (readCosts s .board)) g) w
+greedyBytes s g w =
+    let r = readCosts s in
+    cond (eqb (r .number) 0 && leb planBytes (length w)) (greedyBytesOn (chainOf s (r .board)) g w) w

@@ -3,7 +3,7 @@ ghost use mathlib.Core.Path.{_≡_};
 ghost use Prim.Native.Nat.{_-_, _≤_};
 ghost use Rattle.modules.specs.Model.{chainOf};
 ghost use Rattle.layout.specs.Layout.{mostModules, modulesFrom, modulesOf};
-ghost use Rattle.figures.specs.Judge.{isBlank, isModule, blankFault, shapeFault, firstFailing, copiesTest, memoryTest, judgedPlan, judgedBytes, judged};
+ghost use Rattle.judge.specs.Judge.{isBlank, isModule, blankFault, shapeFault, firstFailing, copiesTest, memoryTest, judgedPlan, judgedBytes, judged};
 use figures::Answer;
 use figures::cores_used;
 use figures::refuse;

@@ -1,7 +1,7 @@
-// Twelve records of 4 bytes: first task, last task, r and p. Bytes after the 48th are never written, and what lies past the end of the
-// slice reads as 0. Records are counted from 0.
+// Twelve records of 4 bytes: first task, last task, r and p. Bytes after the 48th are never read or written, and what lies past the end
+// of the slice reads as 0. Records are counted from 0.
 ghost use mathlib.Core.Path.{_≡_};
-ghost use Prim.Native.Nat.{_≤_};
+ghost use Prim.Native.Nat.{_≤_, _<_};
 ghost use lib.ListN.{getD};
 ghost use Rattle.layout.specs.Layout.{mostModules, moduleAt, recordOf, moduleCount, putModule, putPlan};
 use crate::MOST_MODULES;
@@ -14,8 +14,9 @@ fn byte_at(plan: &[u8], i: usize) -> u8
     if i < plan.len() { plan[i] } else { 0 }
 }
 
-// Record i, of any index; zeros past the end of the bytes.
-pub fn record_at(plan: &[u8], i: u32) -> Module
+// Record i, one of the twelve; zeros past the end of the bytes.
+fn record_at(plan: &[u8], i: u32) -> Module
+    requires { ⌜ i < mostModules ⌝ }
     ensures { λ r. ⌜ r ≡ moduleAt (now (plan .entry)) i ⌝ }
 {
     let at = 4 * (i as usize);

@@ -6,7 +6,6 @@ pub use layout::module_at;
 pub use layout::module_count;
 pub use layout::put_module;
 pub use layout::put_plan;
-pub use layout::record_at;
 
 // The most modules of a plan, and the bytes that they take.
 pub const MOST_MODULES: u32 = 12;

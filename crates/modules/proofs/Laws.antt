@@ -1,11 +1,14 @@
 -- What holds of modules (document 01, "The chain and the board"): the laws that a reader looks for, and that the layers above cite.
 -- The definitions are in specs/. Assumes nothing.
 use mathlib.Core.Path.{_≡_}
-use mathlib.Core.Bool.{true}
-use Prim.Native.Nat.{ℕ, _≤_}
+use mathlib.Core.Bool.{true, false}
+use mathlib.Core.Logic.{_↔_}
+use Prim.Native.Nat.{ℕ, _+_, _≤_}
 use Rattle.modules.specs.Model.{Chain, response}
-use Rattle.modules.specs.Rules.{memoryFits, moduleRules}
+use Rattle.modules.specs.Rules.{memoryFits, moduleRules, fewestCores}
+use Rattle.modules.specs.Claims.{IsFewest}
 use Rattle.modules.proofs.Amounts as amounts
+use Rattle.modules.proofs.Fewest as fewest
 
 -- ---- dropping tasks at either end of a module never makes its memory, its rules or its response worse
 
@@ -21,3 +24,12 @@ module _ (c : Chain) (first last : ℕ) where
 
   pub response-drop-first : (s from r p q : ℕ) → first ≤ from → response c 0 from last r p q ≤ response c s first last r p q
   response-drop-first s from r p q h = amounts.response-drop-first c s first last from r p q h
+
+-- ---- the fewest cores that a module's memory allows: the least of the board's 1 .. P that do, and P + 1 where none do
+
+module _ (c : Chain) (first last : ℕ) where
+  pub fewest-least : (p : ℕ) → p ≤ c .board → (fewestCores c first last ≡ p) ↔ IsFewest c first last p
+  fewest-least = fewest.fewest-least c first last
+
+  pub fewest-none : (fewestCores c first last ≡ c .board + 1) ↔ ((p : ℕ) → 1 ≤ p → p ≤ c .board → memoryFits c first last p ≡ false)
+  fewest-none = fewest.fewest-none c first last

@@ -1,2 +1,3 @@
+pub mod Claims
 pub mod Model
 pub mod Rules

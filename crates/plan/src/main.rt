@@ -2,7 +2,8 @@
 ghost use mathlib.Core.Path.{_≡_};
 ghost use Rattle.io.specs.Counts.{Counts};
 ghost use Rattle.console.specs.Text.{textOf};
-ghost use Rattle.plan.specs.Plan.{planText};
+ghost use Rattle.plan.specs.Plan.{planText, programText};
+use console::Input;
 use console::Text;
 use libc::STDOUT_FILENO;
 
@@ -25,14 +26,25 @@ fn answer(costs: &[u8]) -> Text
     console::report(costs, best, &plan)
 }
 
-// "It holds 65,536 bytes; longer input prints `too long`."
+// The text for what came in: "longer input prints `too long`", else the answer on the bytes read. A length above the file's means
+// the whole file.
+fn text_of(input: Input, file: &[u8]) -> Text
+    ensures { λ r. ⌜ (textOf r ≡ programText input (now (file .entry))) × Counts (r .length) (r .bytes) ⌝ }
+{
+    let longer = input.longer;
+    if longer {
+        return console::too_long();
+    }
+    let mut n = input.length;
+    if file.len() < n {
+        n = file.len();
+    }
+    answer(&file[..n])
+}
+
+// "It holds 65,536 bytes": takes in that many, and writes the text for what came.
 fn main() {
     let mut space = [0u8; 65536];
     let input = console::take_in(&mut space);
-    if input.longer {
-        write(console::too_long());
-        return;
-    }
-    let n = input.length;
-    write(answer(&space[..n]));
+    write(text_of(input, &space));
 }

@@ -20,7 +20,7 @@ use Rattle.figures.specs.Rules.{covers, eachAllowed, keepsRules}
 use Rattle.figures.specs.Claims.{loads}
 use Rattle.figures.proofs.Covering.{covers-head, covers-cons, covers-end, covers-nil}
 use Rattle.figures.proofs.Fractions.{le-le, le-lt, lt-le}
-use Rattle.figures.proofs.Passing.{keeps-parts}
+use Rattle.figures.proofs.Kept.{keeps-parts}
 use Rattle.figures.proofs.Tops.{bottleneck-is}
 use Rattle.search.specs.Plan.{Problem, valid}
 use Rattle.search.specs.Fraction as fraction

@@ -3,7 +3,9 @@ pub mod Coming
 pub mod Fitting
 pub mod Instance
 pub mod Laying
+pub mod Lending
 pub mod Optimal
 pub mod Outcomes
+pub mod Refusals
 pub mod Serving
 pub mod Theorems

@@ -19,10 +19,10 @@ use Rattle.layout.specs.Layout.{mostModules, planBytes, encodePlan}
 use Rattle.layout.proofs.Placing.{encode-length}
 use Rattle.figures.specs.declared.Answer.{Answer}
 use Rattle.figures.specs.Rules.{keepsRules}
-use Rattle.figures.specs.Plan.{figuresOf}
-use Rattle.figures.specs.Judge.{refusal, judged}
-use Rattle.figures.specs.Claims.{Passes}
-use Rattle.figures.proofs.Laws.{judge-passes, judge-figures}
+use Rattle.figures.specs.Plan.{figuresOf, refusal}
+use Rattle.judge.specs.Judge.{judged}
+use Rattle.judge.specs.Claims.{Passes}
+use Rattle.judge.proofs.Laws.{judge-passes, judge-figures}
 use Rattle.planners.specs.Best.{workWords, bestPlan, foundAnswer, foundBytes, begins, bestAnswer, bestBytes}
 use Rattle.planners.specs.Claims.{ComesFirst, Filled}
 use Rattle.planners.proofs.Optimal.{found-best, found-none}
@@ -43,7 +43,7 @@ module _ (s w work : List ℕ) (began : begins s w work ≡ true) where
   unfolding bestAnswer
   answer-is = simp (eq-eqb (readCosts s .number) 0 (begun .0), le-leb planBytes (length w) (begun .1), le-leb workWords (length work) (begun .2))
 
-  bytes-are : bestBytes s w work ≡ foundBytes (bestPlan c) w
+  pub bytes-are : bestBytes s w work ≡ foundBytes (bestPlan c) w
   unfolding bestBytes
   bytes-are = simp began
 

@@ -16,10 +16,9 @@ use Rattle.records.proofs.Laws.{accepted-costs}
 use Rattle.modules.specs.Model.{chainOf}
 use Rattle.layout.specs.Layout.{planBytes, modulesOf, encodePlan}
 use Rattle.figures.specs.declared.Answer.{Answer}
-use Rattle.figures.specs.Plan.{figuresOf}
-use Rattle.figures.specs.Judge.{refusal}
-use Rattle.figures.proofs.Passing.{keeps-parts}
-use Rattle.figures.proofs.Shapes.{decode-encode}
+use Rattle.figures.specs.Plan.{figuresOf, refusal}
+use Rattle.figures.proofs.Kept.{keeps-parts}
+use Rattle.figures.proofs.Decoding.{decode-encode}
 use Rattle.search.specs.Plan.{cap}
 use Rattle.search.specs.Best.{light, plan, Feasible, Bottom}
 use Rattle.search.specs.Answer.{answer}

@@ -8,8 +8,9 @@ use mathlib.Core.Logic.{_↔_}
 use Prim.Native.Nat.{ℕ}
 use Rattle.modules.specs.declared.Module.{Module}
 use Rattle.figures.specs.Rules.{keepsRules}
-use Rattle.figures.specs.Judge.{refusal, judged}
-use Rattle.figures.specs.Claims.{chain, Passes}
+use Rattle.figures.specs.Plan.{refusal}
+use Rattle.judge.specs.Judge.{judged}
+use Rattle.judge.specs.Claims.{chain, Passes}
 use Rattle.planners.specs.Best.{begins, bestAnswer, bestBytes}
 use Rattle.planners.specs.Claims.{ComesFirst, Filled}
 use Rattle.planners.proofs.Outcomes as outcomes

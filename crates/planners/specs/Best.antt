@@ -13,8 +13,7 @@ use Rattle.layout.specs.Layout.{planBytes, encodePlan}
 use Rattle.figures.specs.declared.Answer.{Answer}
 use Rattle.figures.specs.Model.{coresOf, bottleneck}
 use Rattle.figures.specs.Rules.{keepsRules}
-use Rattle.figures.specs.Plan.{figuresOf}
-use Rattle.figures.specs.Judge.{refusal}
+use Rattle.figures.specs.Plan.{figuresOf, refusal}
 use Rattle.search.specs.Every.{every, scan}
 
 -- the words that the work area must have

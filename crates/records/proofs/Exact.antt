@@ -244,3 +244,12 @@ module _ (s : List ℕ) where
   finds-costs r (count-wrong w h g c) e = absurd (omega arith)
   finds-costs r (key-wrong n g l u before k) e = absurd (omega arith)
   finds-costs r (value-wrong n g l u before k v) e = absurd (omega arith)
+
+  pub finds-most : (r : Reading) → Finds s r → r .number ≤ 6
+  finds-most r (costs c h) = omega arith
+  finds-most r (length-wrong w) = omega arith
+  finds-most r (head-wrong w h) = omega arith
+  finds-most r (board-wrong w h g) = omega arith
+  finds-most r (count-wrong w h g c) = omega arith
+  finds-most r (key-wrong n g l u before k) = omega arith
+  finds-most r (value-wrong n g l u before k v) = omega arith

@@ -34,6 +34,10 @@ read-exactly s r = (λ e. rw e at (exact.reads s), exact.reads-only s r)
 pub read-accepts : (s : List ℕ) (b : Board) → (readCosts s ≡ accepted b) ↔ IsCosts s b
 read-accepts s b = (λ e. exact.finds-costs s (accepted b) (read-exactly s (accepted b) .0 e) refl, λ c. exact.reads-only s (accepted b) (costs b c))
 
+-- there is no other refusal than 1 to 6
+pub refused-most : (s : List ℕ) → readCosts s .number ≤ 6
+refused-most s = exact.finds-most s (readCosts s) (exact.reads s)
+
 -- number 0 means accepted: the board is in range, and the length is that of its count
 pub accepted-costs : (s : List ℕ) → readCosts s .number ≡ 0 → IsCosts s (readCosts s .board)
 accepted-costs s = exact.finds-costs s (readCosts s) (exact.reads s)

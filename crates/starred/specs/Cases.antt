@@ -5,7 +5,8 @@ use mathlib.Core.Path.{_≡_}
 use mathlib.Core.List.{List, [], _∷_}
 use lib.ListN.{replicate}
 use Rattle.figures.specs.declared.Answer.{Answer}
-use Rattle.figures.specs.Judge.{refusal, judged}
+use Rattle.figures.specs.Plan.{refusal}
+use Rattle.judge.specs.Judge.{judged}
 use Rattle.greedy.specs.Greedy.{greedyAnswer, greedyBytes}
 use Rattle.planners.specs.Best.{workWords, bestAnswer, bestBytes}
 use Rattle.starred.specs.Dock.{smallDock, fixedDock, dockOf, idleDock}

@@ -4,7 +4,7 @@
 // include/zombreki.h declares them for C, and says what no proof covers.
 ghost use mathlib.Core.Path.{_≡_};
 ghost use Prim.Native.Nat.{_<_};
-ghost use Rattle.figures.specs.Judge.{judged};
+ghost use Rattle.judge.specs.Judge.{judged};
 ghost use Rattle.greedy.specs.Greedy.{greedyAnswer, greedyBytes};
 ghost use Rattle.planners.specs.Best.{bestAnswer, bestBytes, bestWork};
 ghost use Rattle.zombreki.specs.Exported.{inWords, words};

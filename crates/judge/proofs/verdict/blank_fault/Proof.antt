@@ -4,8 +4,8 @@ use Prim.Native.Nat.{_-_, _≤_}
 use native.Mathlib.Omega.{arith}
 use Rattle.layout.specs.Layout.{mostModules}
 use Rattle.layout.proofs.Turns.{record-here}
-use Rattle.figures.specs.Judge.{blankFault}
-use Rattle.figures.proofs.Turns.{blank-here, blank-next, blank-end}
+use Rattle.judge.specs.Judge.{blankFault}
+use Rattle.judge.proofs.Turns.{blank-here, blank-next, blank-end}
 use Rattle.judge.proofs.verdict.blank_fault.Statement.{statement}
 use Rattle.judge.proofs.verdict.blank_fault.Tie as tie
 

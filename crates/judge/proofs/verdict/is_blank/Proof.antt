@@ -1,7 +1,7 @@
 -- `is_blank` is `isBlank`: at each `return` the tests that led there decide the conjunction.
 use native.Mathlib.Omega.{arith}
 use borrow.Author.Tests.{eq-eqb, ne-eqb}
-use Rattle.figures.specs.Judge.{isBlank}
+use Rattle.judge.specs.Judge.{isBlank}
 use Rattle.judge.proofs.verdict.is_blank.Statement.{statement}
 use Rattle.judge.proofs.verdict.is_blank.Tie as tie
 

@@ -1,7 +1,7 @@
 -- `is_module` is `isModule`: at each `return` the tests that led there decide the conjunction.
 use native.Mathlib.Omega.{arith}
 use borrow.Author.Tests.{eq-eqb, ne-eqb, le-leb, lt-leb}
-use Rattle.figures.specs.Judge.{isModule}
+use Rattle.judge.specs.Judge.{isModule}
 use borrow.Author.Needs.{needs}
 use Rattle.judge.proofs.verdict.is_module.Statement.{statement}
 use Rattle.judge.proofs.verdict.is_module.Tie as tie

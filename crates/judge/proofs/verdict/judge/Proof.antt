@@ -1,6 +1,6 @@
 -- `judge` is `judged`: what reading the costs finds decides which branch is due.
 use borrow.Author.Tests.{eq-eqb, ne-eqb}
-use Rattle.figures.specs.Judge.{judged}
+use Rattle.judge.specs.Judge.{judged}
 use borrow.Author.Needs.{needs}
 use Rattle.judge.proofs.verdict.judge.Statement.{statement}
 use Rattle.judge.proofs.verdict.judge.Tie as tie

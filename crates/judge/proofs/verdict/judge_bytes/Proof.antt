@@ -1,6 +1,6 @@
 -- `judge_bytes` is `judgedBytes`: the tests of the length and of the shape decide which branch is due.
 use borrow.Author.Tests.{eq-eqb, ne-eqb, le-leb, lt-leb}
-use Rattle.figures.specs.Judge.{judgedBytes}
+use Rattle.judge.specs.Judge.{judgedBytes}
 use borrow.Author.Needs.{needs}
 use Rattle.judge.proofs.verdict.judge_bytes.Statement.{statement}
 use Rattle.judge.proofs.verdict.judge_bytes.Tie as tie

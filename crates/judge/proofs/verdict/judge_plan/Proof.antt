@@ -1,7 +1,7 @@
 -- `judge_plan` is `judgedPlan`: at each `return` the tests that led there decide which branch is due.
 use borrow.Author.Tests.{eq-eqb, ne-eqb, le-leb, lt-leb}
 use Rattle.layout.specs.Layout.{modulesOf}
-use Rattle.figures.specs.Judge.{judgedPlan}
+use Rattle.judge.specs.Judge.{judgedPlan}
 use borrow.Author.Needs.{needs}
 use Rattle.judge.proofs.verdict.judge_plan.Statement.{statement}
 use Rattle.judge.proofs.verdict.judge_plan.Tie as tie

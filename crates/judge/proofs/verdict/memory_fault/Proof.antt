@@ -6,8 +6,8 @@ use native.Mathlib.Omega.{arith}
 use Rattle.modules.specs.Model.{chainOf}
 use Rattle.layout.specs.Layout.{modulesFrom}
 use Rattle.layout.proofs.Turns.{record-here}
-use Rattle.figures.specs.Judge.{firstFailing, memoryTest}
-use Rattle.figures.proofs.Turns.{failing-here, failing-next, failing-end}
+use Rattle.judge.specs.Judge.{firstFailing, memoryTest}
+use Rattle.judge.proofs.Turns.{failing-here, failing-next, failing-end}
 use Rattle.judge.proofs.verdict.memory_fault.Statement.{statement}
 use Rattle.judge.proofs.verdict.memory_fault.Tie as tie
 

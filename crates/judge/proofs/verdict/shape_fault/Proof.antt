@@ -4,8 +4,8 @@ use Prim.Native.Nat.{_-_, _≤_}
 use native.Mathlib.Omega.{arith}
 use Rattle.layout.specs.Layout.{mostModules}
 use Rattle.layout.proofs.Turns.{record-here}
-use Rattle.figures.specs.Judge.{shapeFault}
-use Rattle.figures.proofs.Turns.{shape-here, shape-last, shape-next, shape-end}
+use Rattle.judge.specs.Judge.{shapeFault}
+use Rattle.judge.proofs.Turns.{shape-here, shape-last, shape-next, shape-end}
 use Rattle.judge.proofs.verdict.shape_fault.Statement.{statement}
 use Rattle.judge.proofs.verdict.shape_fault.Tie as tie
 

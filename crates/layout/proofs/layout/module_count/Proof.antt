@@ -18,7 +18,7 @@ unfolding moduleCount
 loop-holds c = (omega arith, refl)
 
 record-at-requires : tie.Need-record-at-requires Inv-loop μ-loop
-record-at-requires c κs = tt
+record-at-requires c κs = omega arith
 
 add-i : tie.Need-add-i Inv-loop μ-loop
 add-i c = omega arith

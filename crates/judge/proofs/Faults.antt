@@ -12,9 +12,9 @@ use borrow.Author.Tests.{eqb-true, eqb-false}
 use Rattle.records.proofs.Cases.{true-or-false, true-not-false, lt-or-le}
 use Rattle.modules.specs.declared.Module.{Module}
 use Rattle.layout.specs.Layout.{mostModules, moduleAt}
-use Rattle.figures.specs.Judge.{isBlank, isModule, blankFault, shapeFault, firstFailing}
-use Rattle.figures.specs.Claims.{dueTask, Ended, RightRecord, RightShape, WrongShape, noModule, AllPass, FailsAt}
-use Rattle.figures.proofs.Shapes.{module-true}
+use Rattle.judge.specs.Judge.{isBlank, isModule, blankFault, shapeFault, firstFailing}
+use Rattle.judge.specs.Claims.{dueTask, Ended, RightRecord, RightShape, WrongShape, noModule, AllPass, FailsAt}
+use Rattle.judge.proofs.Shapes.{module-true}
 
 -- ---- the shape of the records
 

@@ -8,7 +8,7 @@ use borrow.Author.Tests.{eq-eqb, ne-eqb, not-true, not-false}
 use Rattle.modules.specs.declared.Module.{Module}
 use Rattle.modules.proofs.Left.{left-some, left-none}
 use Rattle.layout.specs.Layout.{moduleAt, modulesFrom}
-use Rattle.figures.specs.Judge.{isBlank, isModule, blankFault, shapeFault, firstFailing}
+use Rattle.judge.specs.Judge.{isBlank, isModule, blankFault, shapeFault, firstFailing}
 
 module _ (w : List ℕ) (i n : ℕ) where
   pub blank-end : n ≤ i → blankFault w i (n - i) ≡ 0

@@ -1,37 +1,35 @@
 -- Judge answers exactly what it is to answer, and passes exactly the plans that keep the rules. By the views of its walks.
 -- Assumes nothing.
-use mathlib.Core.Path.{_≡_, refl, _∙_}
+use mathlib.Core.Path.{_≡_, refl, sym, ap, _∙_}
 use mathlib.Core.Bool.{Bool, true, false, cond}
-use mathlib.Core.List.{List, [], _∷_}
+use mathlib.Core.List.{List, [], _∷_, _++_}
 use mathlib.Core.Logic.{⊎-elim}
-use Prim.Native.Nat.{ℕ, zero, suc, _+_, _≤_, _<_}
+use Prim.Native.Nat.{ℕ, zero, suc, _+_, _<_}
 use native.Mathlib.Omega.{arith}
-use lib.ListN.{length, getD}
+use lib.ListN.{length, getD, drop, take-append-drop}
 use lib.Dec.{eqb, leb}
 use borrow.Author.Tests.{eq-eqb, ne-eqb, le-leb, lt-leb, eqb-true, eqb-false, leb-true, leb-false}
 use Rattle.records.specs.Costs.{readCosts}
-use Rattle.records.proofs.Cases.{true-or-false, and-true}
+use Rattle.records.proofs.Cases.{true-or-false}
 use Rattle.records.proofs.Laws.{accepted-ranges}
 use Rattle.modules.specs.declared.Module.{Module}
 use Rattle.modules.specs.Model.{Chain}
 use Rattle.modules.specs.Rules.{moduleRules}
 use Rattle.layout.specs.Layout.{mostModules, planBytes}
 use Rattle.figures.specs.declared.Answer.{Answer}
 use Rattle.figures.specs.Model.{coresOf}
-use Rattle.figures.specs.Rules.{covers, eachAllowed, keepsRules}
-use Rattle.figures.specs.Plan.{figuresOf}
-use Rattle.figures.specs.Judge.{refusal, shapeFault, firstFailing, copiesTest, memoryTest, judgedPlan, judgedBytes, judged}
-use Rattle.figures.specs.Claims.{RightShape, noModule, AllPass, FailsAt, Readable, chain, plan, Judges, Judges.costs-wrong, Judges.bytes-short, Judges.shape-wrong, Judges.copies-wrong, Judges.memory-wrong, Judges.cores-wrong, Judges.passed, Passes}
-use Rattle.figures.proofs.Faults.{Shaped, Shaped.right, Shaped.wrong, shaped, shaped-one, Failing, Failing.none, Failing.first, failing, failing-one}
-use Rattle.figures.proofs.Shapes.{shape-plan, plan-shape}
+use Rattle.figures.specs.Rules.{eachAllowed, keepsRules}
+use Rattle.figures.specs.Plan.{figuresOf, refusal}
+use Rattle.figures.proofs.Kept.{allowed-head, keeps-parts}
+use Rattle.figures.proofs.Served.{Served, Served.fills, served-refusal}
+use Rattle.judge.specs.Judge.{shapeFault, firstFailing, copiesTest, memoryTest, judgedPlan, judgedBytes, judged}
+use Rattle.judge.specs.Claims.{RightShape, noModule, AllPass, FailsAt, Readable, chain, plan, Judges, Judges.costs-wrong, Judges.bytes-short, Judges.shape-wrong, Judges.copies-wrong, Judges.memory-wrong, Judges.cores-wrong, Judges.passed, Passes}
+use Rattle.judge.proofs.Faults.{Shaped, Shaped.right, Shaped.wrong, shaped, shaped-one, Failing, Failing.none, Failing.first, failing, failing-one}
+use Rattle.judge.proofs.Shapes.{shape-plan, plan-shape}
 
 -- ---- what a plan keeps, module by module
 
 module _ (c : Chain) where
-  pub allowed-head : (m : Module) (ms : List Module) → eachAllowed c (m ∷ ms) ≡ true → (copiesTest c m ≡ true) × (memoryTest c m ≡ true) × (eachAllowed c ms ≡ true)
-  unfolding eachAllowed moduleRules
-  allowed-head m ms e = let h = and-true _ _ e in let g = and-true _ _ (h .0) in (g .0, g .1, h .1)
-
   all-allowed : (ms : List Module) → AllPass (copiesTest c) ms → AllPass (memoryTest c) ms → eachAllowed c ms ≡ true
   unfolding eachAllowed moduleRules
   all-allowed [] a b = refl
@@ -44,12 +42,8 @@ module _ (c : Chain) where
 
   allowed-all : (ms : List Module) → eachAllowed c ms ≡ true → (i : ℕ) → i < length ms → (copiesTest c (getD ms i noModule) ≡ true) × (memoryTest c (getD ms i noModule) ≡ true)
   allowed-all [] e i l = absurd (omega arith)
-  allowed-all (m ∷ ms) e zero l = let h = allowed-head m ms e in (h .0, h .1)
-  allowed-all (m ∷ ms) e (suc i) l = allowed-all ms (allowed-head m ms e .2) i (omega arith)
-
-pub keeps-parts : (c : Chain) (ms : List Module) → keepsRules c ms ≡ true → (covers (c .tasks) 1 ms ≡ true) × (eachAllowed c ms ≡ true) × (coresOf ms ≤ c .board)
-unfolding keepsRules
-keeps-parts c ms e = let h = and-true _ _ e in let g = and-true _ _ (h .0) in (g .0, g .1, leb-true _ _ (h .1))
+  allowed-all (m ∷ ms) e zero l = let h = allowed-head c m ms e in (h .0, h .1)
+  allowed-all (m ∷ ms) e (suc i) l = allowed-all ms (allowed-head c m ms e .2) i (omega arith)
 
 -- ---- what Judge answers is to be answered
 
@@ -191,3 +185,20 @@ module _ (s w : List ℕ) where
 
   pub passes-figures : (p : Passes s w) → judged s w ≡ figuresOf (chain s w) (p .modules)
   passes-figures p = judge-only (figuresOf (chain s w) (p .modules)) (passes-judges p)
+
+  -- ---- a plan's bytes that are passed stand before what lies behind them, and a refusal has zero figures
+
+  judges-served : (a : Answer) → judged s w ≡ a → Judges s w a → Served a w w
+  unfolding figuresOf
+  judges-served a d (costs-wrong n) = served-refusal refl n refl
+  judges-served a d (bytes-short e l) = served-refusal refl (λ z. omega arith) refl
+  judges-served a d (shape-wrong r i g) = served-refusal refl (λ z. omega arith) refl
+  judges-served a d (copies-wrong r g i h) = served-refusal refl (λ z. omega arith) refl
+  judges-served a d (memory-wrong r g x i h) = served-refusal refl (λ z. omega arith) refl
+  judges-served a d (cores-wrong r g x y l) = served-refusal refl (λ z. omega arith) refl
+  judges-served a d (passed r g x y l) =
+      let p = number-passes (ap (λ (b : Answer). b .number) d) in
+      fills refl (p .modules) (sym (take-append-drop planBytes w) ∙ ap (λ (v : List ℕ). v ++ drop planBytes w) (sym (p .bytes)))
+
+  pub judge-served : Served (judged s w) w w
+  judge-served = judges-served (judged s w) refl judge-finds

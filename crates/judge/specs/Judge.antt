@@ -9,13 +9,9 @@ use Rattle.modules.specs.declared.Module.{Module}
 use Rattle.modules.specs.Model.{Chain, chainOf}
 use Rattle.modules.specs.Rules.{copiesAllowed, memoryFits}
 use Rattle.layout.specs.Layout.{mostModules, planBytes, moduleAt, modulesOf}
 use Rattle.figures.specs.declared.Answer.{Answer}
 use Rattle.figures.specs.Model.{coresOf}
-use Rattle.figures.specs.Plan.{figuresOf}
-
--- a refusal has zero figures
-abbrev pub refusal : ℕ → ℕ → Answer
-refusal number place = record { number = number; place = place; modules = 0; cores = 0; slowest = 0; copies = 0; response = 0 }
+use Rattle.figures.specs.Plan.{figuresOf, refusal}
 
 -- ---- 12: the shape of the twelve records
 

@@ -1,0 +1,6 @@
+pub mod Faults
+pub mod Laws
+pub mod Passing
+pub mod Reading
+pub mod Shapes
+pub mod Turns

@@ -1,0 +1,137 @@
+/* Bounds the stack that a call of each service takes. Each call runs on a stack of its own, painted beforehand; the lowest
+ * byte that is not as painted says how deep it went. What a function that does nothing takes on such a stack is subtracted, so
+ * what counts is the call with its arguments and its answer, and all that is called from there.
+ *
+ * `stack FILE..` plans and judges each of these files of cost records, which have plans and two tasks at least. Prints a line
+ * for each service with the most that it took; prints what is wrong and ends with 1. Stacks grow downwards here. */
+#define _XOPEN_SOURCE 600
+#include <stdio.h>
+#include <string.h>
+#include <ucontext.h>
+
+#include "costs.h"
+#include "zombreki.h"
+
+/* The most bytes that a call may take, and the bytes that are painted: far more. */
+#define BOUND 2048
+#define ROOM 65536
+
+static struct costs costs;
+static uint16_t grouping;
+static uint8_t plan[ZOMBREKI_PLAN_BYTES];
+static uint32_t work[ZOMBREKI_WORK_WORDS];
+static struct zombreki_answer answer;
+static int failures;
+
+static void do_nothing(void)
+{
+}
+
+static void call_judge(void)
+{
+    answer = zombreki_judge(costs.bytes, costs.length, plan, sizeof plan);
+}
+
+static void call_greedy(void)
+{
+    answer = zombreki_greedy_plan(costs.bytes, costs.length, grouping, plan, sizeof plan);
+}
+
+static void call_best(void)
+{
+    answer = zombreki_best_plan(costs.bytes, costs.length, plan, sizeof plan, work, ZOMBREKI_WORK_WORDS);
+}
+
+/* A service, and the most bytes that a call of it took. */
+struct service {
+    const char *name;
+    void (*call)(void);
+    size_t most;
+};
+static struct service judge = {"zombreki_judge", call_judge, 0};
+static struct service greedy = {"zombreki_greedy_plan", call_greedy, 0};
+static struct service best = {"zombreki_best_plan", call_best, 0};
+
+/* The bytes from the top of a stack in this paint down to the lowest that the call changed; all of them if it did not run. */
+static size_t depth_in(uint8_t paint, void (*call)(void))
+{
+    static _Alignas(16) uint8_t stack[ROOM];
+    static ucontext_t caller, callee;
+    size_t kept = 0;
+    memset(stack, paint, ROOM);
+    if (getcontext(&callee))
+        return ROOM;
+    callee.uc_stack.ss_sp = stack;
+    callee.uc_stack.ss_size = ROOM;
+    callee.uc_link = &caller;
+    makecontext(&callee, call, 0);
+    if (swapcontext(&caller, &callee))
+        return ROOM;
+    while (kept < ROOM && stack[kept] == paint)
+        kept++;
+    return ROOM - kept;
+}
+
+/* Whatever byte a call writes, it differs from one of the two paints. */
+static size_t depth(void (*call)(void))
+{
+    size_t one = depth_in(0xa5, call), other = depth_in(0x5a, call);
+    return one > other ? one : other;
+}
+
+/* The first call is on the program's own stack: the dynamic linker looks for `memset` then, and takes stack for that. */
+static void measure(struct service *service)
+{
+    size_t taken;
+    service->call();
+    taken = depth(service->call) - depth(do_nothing);
+    if (taken > service->most)
+        service->most = taken;
+}
+
+static void expect(const struct service *service, const char *what, int holds)
+{
+    if (!holds) {
+        printf("stack: %s: %s: %s\n", costs.path, service->name, what);
+        failures++;
+    }
+}
+
+/* The service fills in a plan, and Judge passes it with the same figures. */
+static void plans(struct service *service)
+{
+    struct zombreki_answer planned;
+    memset(plan, 255, sizeof plan);
+    measure(service);
+    planned = answer;
+    expect(service, "no plan", planned.refusal == 0 && planned.modules > 0);
+    measure(&judge);
+    expect(service, "Judge gives other figures", memcmp(&answer, &planned, sizeof answer) == 0);
+}
+
+static void bounded(const struct service *service)
+{
+    printf("stack: %s takes %zu bytes\n", service->name, service->most);
+    if (service->most == 0 || service->most > BOUND) {
+        printf("stack: %s is to take 1 to %d bytes\n", service->name, BOUND);
+        failures++;
+    }
+}
+
+int main(int argc, char **argv)
+{
+    for (int i = 1; i < argc; i++) {
+        if (!read_costs(argv[i], &costs)) {
+            printf("stack: %s: no file of 1 to %d bytes\n", argv[i], LARGEST);
+            return 1;
+        }
+        plans(&best);
+        /* all tasks in one module, then task 1 in one of its own */
+        for (grouping = 0; grouping < 2; grouping++)
+            plans(&greedy);
+    }
+    bounded(&judge);
+    bounded(&greedy);
+    bounded(&best);
+    return failures != 0;
+}
