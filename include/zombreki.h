@@ -11,10 +11,10 @@
  * What a target without an operating system has to offer, measured on x86-64:
  *  - some 16 KB for code; the library has no data and no bss;
  *  - `memset`, the only symbol that it needs from outside;
- *  - beside what is lent, stack for a call: some 600 bytes to judge, 1,500 for the greedy plan, 1,100 for the best;
+ *  - beside what is lent, stack for a call: some 600 bytes to judge, 1,600 for the greedy plan, 1,100 for the best;
  *  - SSE registers, and the red zone of the System V ABI: interrupts keep off the 128 bytes below the stack pointer.
  * Nothing is kept between calls, so calls from several threads, each on its own buffers, are safe. Held by tests/footprint
- * (the first two; code to 24 KiB), tests/stack.c (a call to 2 KiB of stack) and tests/threads.c (two threads).
+ * (the first two; code and constants to 24 KiB), tests/stack.c (a call to 2 KiB of stack) and tests/threads.c (two threads).
  */
 #ifndef ZOMBREKI_H
 #define ZOMBREKI_H

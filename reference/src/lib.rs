@@ -2,7 +2,8 @@
 //!
 //! `costs`, `plan`, `judge`, `greedy` and `every` say what the services answer, in the most obvious way; `every` tries all
 //! plans. `threshold` is the library's own algorithm in Rust and `paper` the dynamic program of source document 000.
-//! `cases` and `damage` make files from seeds; `compare` and `round` tell two providers of the services apart.
+//! `cases` and `damage` make files from seeds; `compare` and `round` tell two providers of the services apart. `written` reads
+//! the cases that are written as text.
 
 pub mod answer;
 pub mod cases;
@@ -20,3 +21,4 @@ pub mod round;
 pub mod services;
 pub mod tally;
 pub mod threshold;
+pub mod written;

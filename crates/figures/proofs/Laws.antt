@@ -24,7 +24,7 @@ use Rattle.figures.proofs.Kept as kept
 use Rattle.figures.proofs.Limits as limits
 use Rattle.figures.proofs.Tops as tops
 
--- ---- plan bytes: encoding and decoding undo each other, on plans that keep the rules of accepted costs
+-- ---- plans that keep the rules of accepted costs: few modules, whose bytes say them again, and bounded responses
 
 module _ (s : List ℕ) (b : Board) (c : IsCosts s b) (ms : List Module) (keeps : keepsRules (chainOf s b) ms ≡ true) where
   covered : covers (b .tasks) 1 ms ≡ true

@@ -80,7 +80,7 @@ module _ (s w : List ℕ) (g : ℕ) where
       (simp (eq-eqb (readCosts s .number) 0 e, lt-leb planBytes (length w) l), simp (eq-eqb (readCosts s .number) 0 e, lt-leb planBytes (length w) l))
 
   pub answer-on : Readable s w → (greedyAnswer s g w ≡ greedyOn (chain s w) g) × (greedyBytes s g w ≡ greedyBytesOn (chain s w) g w)
-  unfolding greedyAnswer greedyBytes greedyBytesOn
+  unfolding greedyAnswer greedyBytes
   answer-on r = (
     simp (eq-eqb (readCosts s .number) 0 (r .accepted), le-leb planBytes (length w) (r .long)),
     simp (eq-eqb (readCosts s .number) 0 (r .accepted), le-leb planBytes (length w) (r .long)),

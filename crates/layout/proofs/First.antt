@@ -25,7 +25,7 @@ module _ (w : List ℕ) where
   count-first k zero i h = refl
   count-first k (suc n) i h = rw (ap (λ (m : Module). m .last) (module-first i (omega arith)), count-first k n (i + 1) (omega arith))
 
-  pub modules-first : (n i : ℕ) → i + n ≤ mostModules → modulesFrom (take planBytes w) i n ≡ modulesFrom w i n
+  modules-first : (n i : ℕ) → i + n ≤ mostModules → modulesFrom (take planBytes w) i n ≡ modulesFrom w i n
   unfolding modulesFrom
   modules-first zero i h = refl
   modules-first (suc n) i h = let m = module-first i (omega arith) in let ms = modules-first n (i + 1) (omega arith) in λ j. m j ∷ ms j

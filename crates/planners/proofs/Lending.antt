@@ -23,12 +23,12 @@ use Rattle.judge.specs.Claims.{chain}
 use Rattle.planners.proofs.Outcomes.{Outcome, Outcome.no-plan, Outcome.plan, outcome, number-of, answer-is, bytes-are}
 
 -- a refusal before any search
-pub record Unbegun (s w work : List ℕ) : Type 0 where
-  pub number : ℕ
-  pub place : ℕ
-  pub some : 1 ≤ number
-  pub most : number ≤ 8
-  pub answer : bestAnswer s w work ≡ refusal number place
+record Unbegun (s w work : List ℕ) : Type 0 where
+  number : ℕ
+  place : ℕ
+  some : 1 ≤ number
+  most : number ≤ 8
+  answer : bestAnswer s w work ≡ refusal number place
 
 module _ (s w work : List ℕ) where
   unbegun : begins s w work ≡ false → Unbegun s w work
@@ -48,14 +48,14 @@ module _ (s w work : List ℕ) where
       (true-or-false (eqb (readCosts s .number) 0))
 
   -- the answer's number tells whether a search has begun: 0 and 9 come of one, and nothing else does
-  pub begun-number : begins s w work ≡ true → (bestAnswer s w work .number ≡ 0) ⊎ (bestAnswer s w work .number ≡ 9)
+  begun-number : begins s w work ≡ true → (bestAnswer s w work .number ≡ 0) ⊎ (bestAnswer s w work .number ≡ 9)
   begun-number b = of (outcome s w work b)
     where
       of : Outcome s w work b → (bestAnswer s w work .number ≡ 0) ⊎ (bestAnswer s w work .number ≡ 9)
       of (no-plan e n) = inr (ap (λ (a : Answer). a .number) e)
       of (plan a f) = inl (number-of s w work b a f)
 
-  pub unbegun-number : begins s w work ≡ false → (bestAnswer s w work .number ≡ 0 → ⊥) × (bestAnswer s w work .number ≡ 9 → ⊥)
+  unbegun-number : begins s w work ≡ false → (bestAnswer s w work .number ≡ 0 → ⊥) × (bestAnswer s w work .number ≡ 9 → ⊥)
   unbegun-number b =
       let u = unbegun b in
       let n = ap (λ (a : Answer). a .number) (u .answer) in

@@ -11,6 +11,7 @@ use reference::plan;
 use reference::round;
 use reference::services::{REFERENCE, Services};
 use reference::tally::Tally;
+use reference::written;
 
 /// As many of the files of tests/small.rs as any mistake needs.
 const FILES: u64 = 900;
@@ -38,6 +39,20 @@ fn every_mistake_shows() {
         };
         println!("seed {seed:>4}, {service}: {what}");
         assert_eq!(service, shows_in, "{what}");
+    }
+}
+
+/// The cases that are written as text tell each from the right one too.
+#[test]
+fn some_line_tells_every_mistake() {
+    let lines = written::lines();
+    for Mistake { what, services, .. } in MISTAKES {
+        let small = |line: &&written::Line| !line.text.contains("k = 12");
+        let told = |line: &written::Line| written::hold(&services, &line.text).is_err();
+        let Some(line) = lines.iter().filter(small).find(|line| told(line)) else {
+            panic!("no line tells: {what}");
+        };
+        println!("{}: {what}", line.place);
     }
 }
 

@@ -1,7 +1,7 @@
 -- `answer` is `planText`: what is lent to Best plan is blank, and its answer and plan bytes are reported.
-use mathlib.Core.Path.{_∙_}
+use mathlib.Core.Path.{refl, _∙_}
 use borrow.Author.Needs.{needs}
-use Rattle.plan.proofs.Planned.{planned}
+use Rattle.plan.specs.Plan.{planText}
 use Rattle.plan.proofs.answer.Statement.{statement}
 use Rattle.plan.proofs.answer.Tie as tie
 
@@ -21,10 +21,10 @@ report-requires : tie.Need-report-requires
 report-requires c κs = search needs
 
 returns : tie.Need-returns
+unfolding planText
 returns c =
     let best = c .before .before .before .before .best-plan in
-    let costs = c .before .before .before .before .before .before .before .before .args .costs .now in
-    (c .report .ensures .0 ∙ planned costs (best .ensures .0) (best .ensures .1), c .report .ensures .1)
+    (c .report .ensures .0 ∙ rw (best .ensures .0, best .ensures .1) (refl), c .report .ensures .1)
 
 pub answer-spec : {M : Type 1} → statement M
 answer-spec =

@@ -6,11 +6,10 @@ use native.Mathlib.Nat.{zero-add}
 use native.Mathlib.Numerals.{add-one}
 use native.Mathlib.Omega.{arith}
 use borrow.Author.Needs.{needs}
-use borrow.Author.Tests.{lt-leb}
+use borrow.Author.Tests.{le-leb, lt-leb}
 use lib.ListN.{length, take, drop, length-set}
 use lib.Seq.{paste-suc, take-all}
 use Rattle.layout.specs.Layout.{planBytes, putPlan}
-use Rattle.layout.proofs.Placing.{put-room}
 use Rattle.layout.proofs.layout.put_plan.Statement.{statement}
 use Rattle.layout.proofs.layout.put_plan.Tie as tie
 
@@ -52,12 +51,13 @@ same-length : tie.Need-same-length Inv-loop μ-loop
 same-length c = omega arith
 
 returns-2 : tie.Need-returns-2 Inv-loop μ-loop
+unfolding putPlan
 returns-2 c =
     let a = c .before .before .before .args in
     let l = c .before .loop in
     let long : length (a .t1) ≡ planBytes = search needs in
     let end : l .i ≡ planBytes = omega arith in
-    l .inv .2 ∙ rw (end, take-all planBytes (a .t1) (omega arith), put-room (a .t1) (a .plan .now) (c .before .before .if1 .left)) (refl)
+    l .inv .2 ∙ rw (end, take-all planBytes (a .t1) (omega arith), le-leb planBytes (length (a .plan .now)) (c .before .before .if1 .left)) (refl)
 
 pub put-plan-spec : {M : Type 1} → statement M
 put-plan-spec =

@@ -1,0 +1,129 @@
+//! The call of a case, and what is lent to it.
+
+use super::due::Due;
+use super::words::{self, matched, number, split_if};
+use crate::every::WORK_WORDS;
+use crate::plan::PLAN_BYTES;
+
+/// How many plan bytes or words are lent, and what each holds.
+#[derive(Clone, Copy, Debug)]
+pub struct Lent<T> {
+    pub length: usize,
+    pub held: T,
+}
+
+/// What is lent where a line does not say so.
+pub const PLAN: Lent<u8> = Lent {
+    length: PLAN_BYTES,
+    held: 255,
+};
+pub const WORK: Lent<u32> = Lent {
+    length: WORK_WORDS,
+    held: 7,
+};
+
+#[derive(Debug)]
+pub enum Call {
+    /// All three services.
+    Read,
+    Judge {
+        plan: Vec<u8>,
+    },
+    Greedy {
+        grouping: u16,
+        plan: Lent<u8>,
+    },
+    Best {
+        plan: Lent<u8>,
+        work: Lent<u32>,
+    },
+}
+
+impl Call {
+    /// Whether such a call can be due that: Judge no plan, a planner a plan with its figures, and `read` no figures.
+    pub fn suits(&self, due: &Due) -> bool {
+        match due {
+            Due::Accepted => matches!(self, Call::Read),
+            Due::Refusal(_) => true,
+            Due::Figures(_) => matches!(self, Call::Judge { .. }),
+            Due::Plan(..) => matches!(self, Call::Greedy { .. } | Call::Best { .. }),
+        }
+    }
+}
+
+pub fn parse(text: &str) -> Result<Call, String> {
+    if text == "read" {
+        return Ok(Call::Read);
+    }
+    if let Some(plan) = text.strip_prefix("judge ") {
+        let plan = judged_bytes(plan)?;
+        return Ok(Call::Judge { plan });
+    }
+    if let Some(rest) = text.strip_prefix("bench way ") {
+        let (grouping, plan) = split_if(rest, " into ");
+        return Ok(Call::Greedy {
+            grouping: number(grouping)?,
+            plan: lent_bytes(plan)?,
+        });
+    }
+    let (rest, work) = split_if(text, " with ");
+    let (name, plan) = split_if(rest, " into ");
+    if name != "best plan" {
+        return Err(format!("`{name}` is no call"));
+    }
+    Ok(Call::Best {
+        plan: lent_bytes(plan)?,
+        work: lent_words(work)?,
+    })
+}
+
+/// Modules or one byte everywhere, then a byte changed, then cut or with bytes 255 behind the 48th.
+fn judged_bytes(text: &str) -> Result<Vec<u8>, String> {
+    let (text, length) = split_if(text, " in ");
+    let (modules, byte) = split_if(text, " with byte ");
+    let mut plan = match modules.strip_suffix(" everywhere") {
+        Some(value) => vec![number(value)?; PLAN_BYTES],
+        None => words::plan(modules)?.to_vec(),
+    };
+    if let Some(byte) = byte {
+        let (at, value) = words::split(byte, " = ")?;
+        let at: usize = number(at)?;
+        let place = plan.get_mut(at).ok_or_else(|| format!("no byte {at}"))?;
+        *place = number(value)?;
+    }
+    if let Some(length) = length {
+        let Some([length]) = matched("# bytes", length) else {
+            return Err(format!("`{length}` is no length of plan bytes"));
+        };
+        plan.resize(length as usize, 255);
+    }
+    Ok(plan)
+}
+
+fn lent_bytes(text: Option<&str>) -> Result<Lent<u8>, String> {
+    let Some(text) = text else {
+        return Ok(PLAN);
+    };
+    let (bytes, held) = split_if(text, " of ");
+    let Some([length]) = matched("# bytes", bytes) else {
+        return Err(format!("`{text}` are no plan bytes"));
+    };
+    Ok(Lent {
+        length: length as usize,
+        held: held.map_or(Ok(PLAN.held), number)?,
+    })
+}
+
+fn lent_words(text: Option<&str>) -> Result<Lent<u32>, String> {
+    let Some(text) = text else {
+        return Ok(WORK);
+    };
+    let (words, held) = split_if(text, " of ");
+    let Some([length]) = matched("# words", words) else {
+        return Err(format!("`{text}` are no words of a work area"));
+    };
+    Ok(Lent {
+        length: length as usize,
+        held: held.map_or(Ok(WORK.held), number)?,
+    })
+}

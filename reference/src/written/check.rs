@@ -1,0 +1,148 @@
+//! Holds the library and the second planner to a case: the answer, and every byte and word that was lent.
+
+use std::fmt::Debug;
+
+use super::Case;
+use super::call::{Call, Lent, PLAN, WORK};
+use super::due::Due;
+use crate::answer::Answer;
+use crate::costs;
+use crate::plan::PLAN_BYTES;
+use crate::services::{LIBRARY, QUICK_REFERENCE, REFERENCE, Services};
+
+/// The work area of a service that is lent none.
+const NO_WORK: Lent<u32> = Lent { length: 0, ..WORK };
+
+/// What was lent is the middle of something longer, so that a byte or word written beside it shows.
+const MARGIN: usize = 16;
+
+/// An answer, with the plan bytes and the work area after it, margins included.
+struct Given {
+    answer: Answer,
+    plan: Vec<u8>,
+    work: Vec<u32>,
+}
+
+/// The library and the second planner give what the text says: the planner that tries all plans where there are not too many,
+/// and the one that searches as the library does.
+pub fn agree(case: &Case) -> Result<(), String> {
+    let few_plans = match costs::read(&case.costs) {
+        Ok(chain) => chain.tasks <= 5 && chain.cores <= 10,
+        Err(_) => true,
+    };
+    let mut providers = vec![("library", &LIBRARY), ("quick reference", &QUICK_REFERENCE)];
+    if few_plans {
+        providers.push(("reference", &REFERENCE));
+    }
+    for (name, services) in providers {
+        held(services, case).map_err(|what| format!("the {name}: {what}"))?;
+    }
+    Ok(())
+}
+
+/// One provider gives what the text says.
+pub fn held(services: &Services, case: &Case) -> Result<(), String> {
+    let costs = &case.costs;
+    match &case.call {
+        Call::Read => read(services, case),
+        Call::Judge { plan } => {
+            let answer = (services.judge)(costs, plan);
+            same("answer", &[answer_due(&case.due)], &[answer])
+        }
+        Call::Greedy { grouping, plan } => {
+            let given = greedy(services, costs, *grouping, *plan);
+            left(&case.due, *plan, NO_WORK, &given)
+        }
+        Call::Best { plan, work } => {
+            let given = best(services, costs, *plan, *work);
+            left(&case.due, *plan, *work, &given)
+        }
+    }
+}
+
+/// All three services refuse so, or none refuses the costs.
+fn read(services: &Services, case: &Case) -> Result<(), String> {
+    let costs = &case.costs;
+    let judged = (services.judge)(costs, &[0; PLAN_BYTES]);
+    let greedy = greedy(services, costs, 0, PLAN);
+    let best = best(services, costs, PLAN, WORK);
+    let answers = [judged, greedy.answer, best.answer];
+    if let Due::Accepted = case.due {
+        return match answers.iter().find(|a| (1..=6).contains(&a.refusal)) {
+            None => Ok(()),
+            Some(answer) => Err(format!("accepted costs are due, not {answer:?}")),
+        };
+    }
+    same(
+        "answers of the services",
+        &[answer_due(&case.due); 3],
+        &answers,
+    )?;
+    left(&case.due, PLAN, NO_WORK, &greedy)?;
+    left(&case.due, PLAN, WORK, &best)
+}
+
+fn greedy(services: &Services, costs: &[u8], grouping: u16, plan: Lent<u8>) -> Given {
+    let mut bytes = lent(plan);
+    let lent_bytes = &mut bytes[MARGIN..MARGIN + plan.length];
+    let answer = (services.greedy_plan)(costs, grouping, lent_bytes);
+    Given {
+        answer,
+        plan: bytes,
+        work: lent(NO_WORK),
+    }
+}
+
+fn best(services: &Services, costs: &[u8], plan: Lent<u8>, work: Lent<u32>) -> Given {
+    let (mut bytes, mut words) = (lent(plan), lent(work));
+    let lent_bytes = &mut bytes[MARGIN..MARGIN + plan.length];
+    let lent_words = &mut words[MARGIN..MARGIN + work.length];
+    let answer = (services.best_plan)(costs, lent_bytes, lent_words);
+    Given {
+        answer,
+        plan: bytes,
+        work: words,
+    }
+}
+
+fn lent<T: Copy>(lent: Lent<T>) -> Vec<T> {
+    vec![lent.held; lent.length + 2 * MARGIN]
+}
+
+fn answer_due(due: &Due) -> Answer {
+    match due {
+        Due::Accepted => Answer::default(),
+        Due::Refusal(refusal) => (*refusal).into(),
+        Due::Figures(answer) | Due::Plan(_, answer) => *answer,
+    }
+}
+
+/// The answer is the due one, the plan bytes hold the due plan or what they held, and the work area is zero after a search.
+fn left(due: &Due, plan: Lent<u8>, work: Lent<u32>, given: &Given) -> Result<(), String> {
+    let (mut bytes, mut words) = (lent(plan), lent(work));
+    if let Due::Plan(filled, _) = due {
+        bytes[MARGIN..MARGIN + PLAN_BYTES].copy_from_slice(filled);
+    }
+    let searched = match due {
+        Due::Plan(..) => true,
+        Due::Refusal(refusal) => refusal.number == 9,
+        Due::Accepted | Due::Figures(_) => false,
+    };
+    if searched {
+        words[MARGIN..MARGIN + work.length].fill(0);
+    }
+    same("answer", &[answer_due(due)], &[given.answer])?;
+    same("plan bytes, from 16 before", &bytes, &given.plan)?;
+    same("work area, from 16 before", &words, &given.work)
+}
+
+/// The first place where they differ.
+fn same<T: PartialEq + Debug>(what: &str, due: &[T], found: &[T]) -> Result<(), String> {
+    match (0..due.len()).find(|&i| due[i] != found[i]) {
+        None => Ok(()),
+        Some(i) => Err(format!(
+            "{what}, at {i}: {:?} is due, not {:?}",
+            due[i], found[i]
+        )),
+    }
+}
