@@ -1,5 +1,7 @@
 //! The call of a case, and what is lent to it.
 
+use std::str::FromStr;
+
 use super::due::Due;
 use super::words::{self, matched, number, split_if};
 use crate::every::WORK_WORDS;
@@ -63,7 +65,7 @@ pub fn parse(text: &str) -> Result<Call, String> {
         let (grouping, plan) = split_if(rest, " into ");
         return Ok(Call::Greedy {
             grouping: number(grouping)?,
-            plan: lent_bytes(plan)?,
+            plan: lent(plan, "# bytes", PLAN)?,
         });
     }
     let (rest, work) = split_if(text, " with ");
@@ -72,8 +74,8 @@ pub fn parse(text: &str) -> Result<Call, String> {
         return Err(format!("`{name}` is no call"));
     }
     Ok(Call::Best {
-        plan: lent_bytes(plan)?,
-        work: lent_words(work)?,
+        plan: lent(plan, "# bytes", PLAN)?,
+        work: lent(work, "# words", WORK)?,
     })
 }
 
@@ -100,30 +102,17 @@ fn judged_bytes(text: &str) -> Result<Vec<u8>, String> {
     Ok(plan)
 }
 
-fn lent_bytes(text: Option<&str>) -> Result<Lent<u8>, String> {
+/// `60 bytes of 9`, `16390 words`: what is not said is as in the other.
+fn lent<T: FromStr>(text: Option<&str>, pattern: &str, other: Lent<T>) -> Result<Lent<T>, String> {
     let Some(text) = text else {
-        return Ok(PLAN);
+        return Ok(other);
     };
-    let (bytes, held) = split_if(text, " of ");
-    let Some([length]) = matched("# bytes", bytes) else {
-        return Err(format!("`{text}` are no plan bytes"));
+    let (length, held) = split_if(text, " of ");
+    let Some([length]) = matched(pattern, length) else {
+        return Err(format!("`{text}` is not `{pattern}`"));
     };
     Ok(Lent {
         length: length as usize,
-        held: held.map_or(Ok(PLAN.held), number)?,
-    })
-}
-
-fn lent_words(text: Option<&str>) -> Result<Lent<u32>, String> {
-    let Some(text) = text else {
-        return Ok(WORK);
-    };
-    let (words, held) = split_if(text, " of ");
-    let Some([length]) = matched("# words", words) else {
-        return Err(format!("`{text}` are no words of a work area"));
-    };
-    Ok(Lent {
-        length: length as usize,
-        held: held.map_or(Ok(WORK.held), number)?,
+        held: held.map_or(Ok(other.held), number)?,
     })
 }
