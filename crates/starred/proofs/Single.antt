@@ -1,12 +1,13 @@
--- What single definitions say where no service shows it, computed on document 01's small dock and on a chain of twelve tasks: costs and
--- plan bytes out of range, modules without neighbours, figures of plans that break a rule. Assumes nothing.
+-- What single definitions say where no service shows it, computed on document 01's small dock and on a chain of twelve tasks: what is read
+-- of a file, costs and plan bytes out of range, modules without neighbours, figures of plans that break a rule. Assumes nothing.
 use Prim.Native.Nat.{ℕ, _+_, _*_, _%_}
 use mathlib.Core.Path.{_≡_, refl}
 use mathlib.Core.Bool.{true, false}
 use mathlib.Core.List.{List, [], _∷_, _++_, map}
-use lib.ListN.{length, replicate}
+use lib.ListN.{length, replicate, set}
 use lib.Dec.{eqb}
 use Rattle.records.specs.declared.Board.{Board}
+use Rattle.records.specs.Costs.{eachFrom, joinFrom, dueKeys, countOf, accepted, keyMeets, valueMeets, faultAt, firstFault, lengthMeets, headMeets, boardMeets, readRecords, readHead, readCosts}
 use Rattle.fields.specs.Fields.{valueAt}
 use Rattle.lookups.specs.Lookups.{within, hasNext, cellOf, needOf, replicableOf, executionOf, internalOf, pairPlace, pairOf, externalOf}
 use Rattle.modules.specs.declared.Module.{Module}
@@ -15,7 +16,7 @@ use Rattle.modules.specs.Rules.{memoryFits, fewestFrom, fewestCores}
 use Rattle.layout.specs.Layout.{recordOf, countFrom, moduleCount, modulesFrom, modulesOf, putModule}
 use Rattle.figures.specs.Model.{responses, coresOf, slowerOf, slowestFrom, bottleneck}
 use Rattle.figures.specs.Plan.{figuresOf, responseAt}
-use Rattle.starred.specs.Dock.{smallDock}
+use Rattle.starred.specs.Dock.{smallDock, fixedDock}
 use Rattle.starred.specs.Cases.{figures, one, two}
 
 -- the numbers 0 to 5
@@ -29,6 +30,25 @@ board cores capacity = record { tasks = 2; cores = cores; capacity = capacity }
 
 abbrev dock : Chain
 dock = chainOf smallDock (board 4 100)
+
+-- 1,000,000 as the value whose lowest byte that is
+abbrev million : ℕ → List ℕ
+million at = set (set (set smallDock at 64) (at + 1) 66) (at + 2) 15
+
+-- one task, not replicable, on one core of capacity 7: it needs 1 and takes 2
+abbrev smallest : List ℕ
+smallest = 1 ∷ 0 ∷ 1 ∷ 1 ∷ 7 ∷ 0 ∷ 0 ∷ 0 ∷ 2 ∷ 1 ∷ 0 ∷ 0 ∷ 1 ∷ 0 ∷ 0 ∷ 0 ∷ 3 ∷ 1 ∷ 1 ∷ 0 ∷ 2 ∷ 0 ∷ 0 ∷ 0 ∷ []
+
+-- what is read of accepted files: with the greatest capacity, need and cost, with a task that is not replicable, and of the smallest
+readings :
+    (readCosts smallDock ≡ accepted (board 4 100))
+    × (readCosts (million 4) ≡ accepted (board 4 1000000))
+    × (readCosts (million 12) ≡ accepted (board 4 100))
+    × (readCosts (million 244) ≡ accepted (board 4 100))
+    × (readCosts fixedDock ≡ accepted (board 4 100))
+    × (readCosts smallest ≡ accepted (record { tasks = 1; cores = 1; capacity = 7 }))
+unfolding valueAt eachFrom joinFrom dueKeys countOf keyMeets valueMeets faultAt firstFault lengthMeets headMeets boardMeets readRecords readHead readCosts smallDock fixedDock
+readings = (refl, refl, refl, refl, refl, refl)
 
 -- costs of tasks and cores that are not there are 0, and their parts empty
 needs : map (needOf smallDock (board 4 100)) few ≡ 0 ∷ 50 ∷ 150 ∷ 0 ∷ 0 ∷ 0 ∷ []
