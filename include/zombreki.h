@@ -9,9 +9,9 @@
  *  - an empty slice has count 0; its pointer is not looked at and may be any.
  *
  * What a target without an operating system has to offer, measured on x86-64:
- *  - some 16 KB for code; the library has no data and no bss;
+ *  - some 15 KB for code; the library has no data and no bss;
  *  - `memset`, the only symbol that it needs from outside;
- *  - beside what is lent, stack for a call: some 600 bytes to judge, 1,600 for the greedy plan, 1,100 for the best;
+ *  - beside what is lent, stack for a call: some 600 bytes to judge, 1,500 for the greedy plan, 1,000 for the best;
  *  - SSE registers, and the red zone of the System V ABI: interrupts keep off the 128 bytes below the stack pointer.
  * Nothing is kept between calls, so calls from several threads, each on its own buffers, are safe. Held by tests/footprint
  * (the first two; code and constants to 24 KiB), tests/stack.c (a call to 2 KiB of stack) and tests/threads.c (two threads).
@@ -30,7 +30,9 @@ extern "C" {
 #define ZOMBREKI_PLAN_BYTES 48
 #define ZOMBREKI_WORK_WORDS 16384
 
-/* The number of a refusal (0 for none) and its place, or the figures of a plan. A refusal has zero figures. */
+/* The number of a refusal (0 for none) and its place, or the figures of a plan. A refusal has zero figures. The costs are
+ * refused with 1 to 6, what is lent with 7, 8 and 10, a judged plan with 12 to 16 (16 before 15: a copy of a module has more
+ * cores than byte b of one of its tasks' records allows), and where there is no such plan the planners refuse with 9 and 11. */
 struct zombreki_answer {
     uint32_t refusal;  /* 0, or the number of the refusal */
     uint32_t place;    /* the record or module at fault, counted from 1; 0 where none is named */

@@ -88,6 +88,46 @@ static void plans_best(const uint8_t *costs, size_t length)
     expect("best: work", all(work, ZOMBREKI_WORK_WORDS, 0) && work[ZOMBREKI_WORK_WORDS] == UINT32_MAX);
 }
 
+/* Document 02, M-100: byte b of a task's record limits the cores of one copy. It is the file's byte 11 for task 1, and 19 for
+ * task 2. */
+static void keeps_limits(const uint8_t *costs, size_t length)
+{
+    static uint32_t work[ZOMBREKI_WORK_WORDS];
+    uint8_t limited[248];
+    uint8_t plan[52] = {1, 1, 2, 1, 2, 2, 1, 3};
+    memcpy(limited, costs, sizeof limited);
+    limited[19] = 2;
+    expect("judge, limit", answers(zombreki_judge(limited, length, plan, 48), (uint32_t[]){16, 2, 0, 0, 0, 0, 0}));
+    limited[11] = 1;
+    memset(plan, 255, sizeof plan);
+    expect("best, limits", answers(zombreki_best_plan(limited, length, plan, sizeof plan, work, ZOMBREKI_WORK_WORDS),
+                                   (uint32_t[]){0, 0, 2, 4, 2, 12, 1}));
+    expect("best, limits: plan", holds(plan, (uint8_t[]){1, 1, 2, 1, 2, 2, 1, 2}, 8));
+}
+
+/* Both tasks in one module need two cores, more than limit 1. Apart they start at limits 1 and 2. One module gets one core more
+ * up to limit 3. */
+static void walks_to_limits(const uint8_t *costs, size_t length)
+{
+    uint8_t limited[248];
+    uint8_t plan[52];
+    memcpy(limited, costs, sizeof limited);
+    memset(plan, 255, sizeof plan);
+    limited[11] = 1;
+    limited[19] = 2;
+    expect("greedy, limit too low",
+           answers(zombreki_greedy_plan(limited, length, 0, plan, sizeof plan), (uint32_t[]){11, 0, 0, 0, 0, 0, 0}));
+    expect("greedy, limit too low: plan as lent", plan[0] == 255 && plan[47] == 255);
+    expect("greedy, limits 1 and 2",
+           answers(zombreki_greedy_plan(limited, length, 1, plan, sizeof plan), (uint32_t[]){0, 0, 2, 3, 1, 14, 1}));
+    expect("greedy, limits 1 and 2: plan", holds(plan, (uint8_t[]){1, 1, 1, 1, 2, 2, 1, 2}, 8));
+    limited[11] = 3;
+    limited[19] = 0;
+    expect("greedy, limit 3",
+           answers(zombreki_greedy_plan(limited, length, 0, plan, sizeof plan), (uint32_t[]){0, 0, 1, 3, 1, 14, 1}));
+    expect("greedy, limit 3: plan", holds(plan, (uint8_t[]){1, 2, 1, 3}, 4));
+}
+
 int main(int argc, char **argv)
 {
     uint8_t costs[249];
@@ -101,6 +141,8 @@ int main(int argc, char **argv)
     judges(costs, length);
     plans_greedily(costs, length);
     plans_best(costs, length);
+    keeps_limits(costs, length);
+    walks_to_limits(costs, length);
     if (failures)
         return 1;
     puts("calls: ok");

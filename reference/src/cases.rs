@@ -2,7 +2,7 @@
 
 mod times;
 
-use crate::costs::{self, Chain};
+use crate::costs::{self, Chain, MOST_CORES};
 use crate::random::Random;
 
 #[derive(Clone, Copy, Debug, PartialEq, Eq)]
@@ -25,9 +25,13 @@ pub enum Kind {
     Realistic,
     /// Great times everywhere but along one plan.
     Hidden,
+    /// Core limits at 1, at the board's cores, above them and at the most, on some tasks or on one; more cores would help.
+    Limits,
+    /// Core limits that are what the memory of a few neighbouring tasks asks for, or a little beside it.
+    TightLimits,
 }
 
-pub const KINDS: [Kind; 9] = [
+pub const KINDS: [Kind; 11] = [
     Kind::Random,
     Kind::Ties,
     Kind::Zeros,
@@ -37,6 +41,8 @@ pub const KINDS: [Kind; 9] = [
     Kind::NotReplicable,
     Kind::Realistic,
     Kind::Hidden,
+    Kind::Limits,
+    Kind::TightLimits,
 ];
 
 /// A file with what it was made from.
@@ -46,7 +52,7 @@ pub struct Case {
     pub costs: Vec<u8>,
 }
 
-/// A file small enough for trying all plans; the seed fixes it, and each nine seeds in turn cover all kinds.
+/// A file small enough for trying all plans; the seed fixes it, and each eleven seeds in turn cover all kinds.
 pub fn small(seed: u64) -> Case {
     let mut random = Random::new(seed);
     let (tasks, cores) = small_size(&mut random);
@@ -75,12 +81,15 @@ fn small_size(random: &mut Random) -> (usize, usize) {
 fn chain(kind: Kind, tasks: usize, cores: usize, random: &mut Random) -> Chain {
     let mut chain = constant(tasks, cores, 0);
     match kind {
-        Kind::Realistic | Kind::NotReplicable => times::set_realistic(&mut chain, random),
+        Kind::Realistic | Kind::NotReplicable | Kind::Limits => {
+            times::set_realistic(&mut chain, random);
+        }
         Kind::Hidden => times::set_hidden(&mut chain, random),
         _ => times::set_drawn(&mut chain, kind, random),
     }
     set_memory(&mut chain, kind, random);
     set_flags(&mut chain, kind, random);
+    set_limits(&mut chain, kind, random);
     chain
 }
 
@@ -93,6 +102,7 @@ fn set_memory(chain: &mut Chain, kind: Kind, random: &mut Random) {
         Kind::TightMemory => board - random.below(board.min(4)),
         Kind::NoPlan => board,
         Kind::Hidden => 0,
+        Kind::TightLimits => board / 3 + random.below(board / 2 + 1),
         _ if random.once_in(3) => 0,
         _ => random.below(board * 2 / 3 + 1),
     };
@@ -106,8 +116,9 @@ fn set_memory(chain: &mut Chain, kind: Kind, random: &mut Random) {
     }
 }
 
+/// Half of the tasks are replicable where cores are to count more than copies; else most of them or all.
 fn set_flags(chain: &mut Chain, kind: Kind, random: &mut Random) {
-    if kind == Kind::NotReplicable {
+    if matches!(kind, Kind::NotReplicable | Kind::Limits) {
         for flag in &mut chain.flags {
             *flag = random.once_in(2);
         }
@@ -119,6 +130,49 @@ fn set_flags(chain: &mut Chain, kind: Kind, random: &mut Random) {
     }
 }
 
+/// Limits in the kinds that are named for them; of the other files one in eight has some.
+fn set_limits(chain: &mut Chain, kind: Kind, random: &mut Random) {
+    if kind == Kind::TightLimits {
+        set_tight_limits(chain, random);
+    } else if kind == Kind::Limits && random.once_in(2) {
+        chain.limits[random.below(chain.tasks)] = Some(random.within(1, chain.cores));
+    } else if kind == Kind::Limits || random.once_in(8) {
+        for limit in &mut chain.limits {
+            *limit = some_limit(chain.cores, random);
+        }
+    }
+}
+
+fn some_limit(cores: usize, random: &mut Random) -> Option<usize> {
+    let (low, high) = (random.within(1, cores), random.within(cores, MOST_CORES));
+    random.pick(&[
+        None,
+        None,
+        Some(1),
+        Some(low),
+        Some(cores),
+        Some(high),
+        Some(MOST_CORES),
+    ])
+}
+
+/// Each few neighbouring tasks, as a module might have them, get a limit on one of them, near the cores that all of them need.
+fn set_tight_limits(chain: &mut Chain, random: &mut Random) {
+    let mut first = 1;
+    while first <= chain.tasks {
+        let last = random.within(first, chain.tasks.min(first + 2));
+        let need: u32 = chain.needs[first - 1..last].iter().sum();
+        let fewest = need.div_ceil(chain.capacity).max(1) as usize;
+        let limit = if random.once_in(4) {
+            (fewest - 1).max(1)
+        } else {
+            fewest + random.below(3)
+        };
+        chain.limits[random.within(first, last) - 1] = Some(limit.min(MOST_CORES));
+        first = last + 1;
+    }
+}
+
 /// Document 01's worked example: 2 tasks, 4 cores.
 pub fn worked_example() -> Chain {
     Chain {
@@ -127,13 +181,14 @@ pub fn worked_example() -> Chain {
         capacity: 100,
         needs: vec![50, 150],
         flags: vec![true, true],
+        limits: vec![None, None],
         executions: vec![12, 7, 5, 4, 20, 10, 8, 6],
         internals: vec![1; 4],
         externals: vec![2; 16],
     }
 }
 
-/// A chain whose times are all the same, without memory needs.
+/// A chain whose times are all the same, without memory needs and limits.
 pub fn constant(tasks: usize, cores: usize, time: u32) -> Chain {
     let pairs = tasks - 1;
     Chain {
@@ -142,6 +197,7 @@ pub fn constant(tasks: usize, cores: usize, time: u32) -> Chain {
         capacity: 1,
         needs: vec![0; tasks],
         flags: vec![true; tasks],
+        limits: vec![None; tasks],
         executions: vec![time; tasks * cores],
         internals: vec![time; pairs * cores],
         externals: vec![time; pairs * cores * cores],

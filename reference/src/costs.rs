@@ -1,4 +1,5 @@
-//! Document 01, "Cost records": the reader with refusals 1 to 6, the writer, and the costs of an accepted file.
+//! Document 01, "Cost records", with the core limits of document 02, M-100: the reader with refusals 1 to 6, the writer, and
+//! the costs of an accepted file.
 
 use crate::answer::Refusal;
 
@@ -16,6 +17,8 @@ pub struct Chain {
     pub capacity: u32,
     pub needs: Vec<u32>,
     pub flags: Vec<bool>,
+    /// The most cores that a copy may have, where a task has such a limit.
+    pub limits: Vec<Option<usize>>,
     pub executions: Vec<u32>,
     pub internals: Vec<u32>,
     pub externals: Vec<u32>,
@@ -29,6 +32,11 @@ impl Chain {
 
     pub fn replicable(&self, task: usize) -> bool {
         self.flags[task - 1]
+    }
+
+    /// The most cores that one copy of the task may have; none without a limit.
+    pub fn limit(&self, task: usize) -> Option<usize> {
+        self.limits[task - 1]
     }
 
     pub fn execution(&self, task: usize, p: usize) -> u32 {
@@ -67,17 +75,23 @@ impl Record {
     }
 
     fn has_key(&self, due: Key) -> bool {
-        let a_is_due = due.kind == 2 || self.a == due.a;
-        self.kind == due.kind && self.task == due.task && a_is_due && self.b == due.b
+        let a_and_b_are_due = due.kind == 2 || (self.a == due.a && self.b == due.b);
+        self.kind == due.kind && self.task == due.task && a_and_b_are_due
     }
 
     fn in_range(&self) -> bool {
-        let flag_in_range = self.kind != 2 || self.a <= 1;
-        flag_in_range && self.value <= MOST_VALUE
+        let flag_and_limit_in_range =
+            self.kind != 2 || (self.a <= 1 && usize::from(self.b) <= MOST_CORES);
+        flag_and_limit_in_range && self.value <= MOST_VALUE
+    }
+
+    /// The limit that b of a kind 2 record holds; 0 is none.
+    fn limit(&self) -> Option<usize> {
+        (self.b > 0).then_some(self.b.into())
     }
 }
 
-/// What a record has before its value. The a of kind 2 is a flag and not part of the key.
+/// What a record has before its value. The a and b of kind 2 are a flag and a limit, and not part of the key.
 #[derive(Clone, Copy)]
 struct Key {
     kind: u8,
@@ -152,15 +166,16 @@ fn chain_of(head: Record, records: &[Record]) -> Chain {
         capacity: head.value,
         needs: values(2),
         flags: of_kind(2).map(|record| record.a == 1).collect(),
+        limits: of_kind(2).map(Record::limit).collect(),
         executions: values(3),
         internals: values(4),
         externals: values(5),
     }
 }
 
-/// The file of a chain, as `read` accepts it if the chain is within the limits.
+/// The file of a chain, as `read` accepts it if all its numbers are in range.
 pub fn write(chain: &Chain) -> Vec<u8> {
-    let byte = |number: usize| u8::try_from(number).expect("tasks and cores are bytes");
+    let byte = |number: usize| u8::try_from(number).expect("tasks, cores and limits are bytes");
     let mut bytes = Vec::new();
     let mut record = |kind, task, a, b, value: u32| {
         bytes.extend([kind, byte(task), byte(a), byte(b)]);
@@ -169,7 +184,8 @@ pub fn write(chain: &Chain) -> Vec<u8> {
     record(1, 0, chain.cores, chain.tasks, chain.capacity);
     for task in 1..=chain.tasks {
         let flag = usize::from(chain.replicable(task));
-        record(2, task, flag, 0, chain.need(task));
+        let limit = chain.limit(task).unwrap_or(0);
+        record(2, task, flag, limit, chain.need(task));
     }
     for task in 1..=chain.tasks {
         (1..=chain.cores).for_each(|p| record(3, task, p, 0, chain.execution(task, p)));

@@ -1,5 +1,6 @@
 //! Files and plans that are damaged in one way or several.
 
+use crate::cases;
 use crate::costs::RECORD_BYTES;
 use crate::plan::{self, Module, PLAN_BYTES};
 use crate::random::Random;
@@ -13,11 +14,12 @@ pub enum Damage {
     SwappedRecords,
     RepeatedRecord,
     OutOfRange,
+    OtherLimit,
     WrongHead,
     Several,
 }
 
-pub const DAMAGES: [Damage; 9] = [
+pub const DAMAGES: [Damage; 10] = [
     Damage::FlippedBit,
     Damage::SetByte,
     Damage::Cut,
@@ -25,6 +27,7 @@ pub const DAMAGES: [Damage; 9] = [
     Damage::SwappedRecords,
     Damage::RepeatedRecord,
     Damage::OutOfRange,
+    Damage::OtherLimit,
     Damage::WrongHead,
     Damage::Several,
 ];
@@ -34,6 +37,13 @@ pub fn damaged(costs: &[u8], damage: Damage, random: &mut Random) -> Vec<u8> {
     let mut bytes = costs.to_vec();
     apply(&mut bytes, damage, random);
     bytes
+}
+
+/// The small file of the seed with that damage, and the random numbers to go on with.
+pub fn small(seed: u64, damage: Damage) -> (Vec<u8>, Random) {
+    let mut random = Random::new(!seed);
+    let costs = damaged(&cases::small(seed).costs, damage, &mut random);
+    (costs, random)
 }
 
 fn apply(bytes: &mut Vec<u8>, damage: Damage, random: &mut Random) {
@@ -62,10 +72,12 @@ fn apply(bytes: &mut Vec<u8>, damage: Damage, random: &mut Random) {
             bytes.copy_within(record, to * RECORD_BYTES);
         }
         Damage::OutOfRange => set_out_of_range(bytes, records, random),
+        Damage::OtherLimit => set_limit(bytes, records, random),
         Damage::WrongHead => set_head(bytes, random),
         Damage::Several => {
             for _ in 0..random.within(2, 4) {
-                apply(bytes, random.pick(&DAMAGES[..8]), random);
+                // all but this one, which stands last
+                apply(bytes, random.pick(&DAMAGES[..DAMAGES.len() - 1]), random);
             }
         }
     }
@@ -114,7 +126,18 @@ fn set_out_of_range(bytes: &mut [u8], records: usize, random: &mut Random) {
     bytes[at + 4..at + 8].copy_from_slice(&value.to_le_bytes());
 }
 
-/// Another P, k or capacity, near and beyond the limits.
+/// Another limit in some task's record, near and beyond what it may be.
+fn set_limit(bytes: &mut [u8], records: usize, random: &mut Random) {
+    let of_tasks: Vec<usize> = (0..records)
+        .filter(|record| bytes[record * RECORD_BYTES] == 2)
+        .collect();
+    if !of_tasks.is_empty() {
+        let b = random.pick(&of_tasks) * RECORD_BYTES + 3;
+        bytes[b] = random.pick(&[0, 1, 2, 3, 8, 16, 31, 32, 33, 34, 128, 255]);
+    }
+}
+
+/// Another P, k or capacity, near and beyond the bounds.
 fn set_head(bytes: &mut [u8], random: &mut Random) {
     match random.below(4) {
         0 => bytes[2] = random.pick(&[0, 1, 31, 32, 33, 64, 255]),

@@ -14,7 +14,7 @@ pub fn best_plan(costs: &[u8], plan: &mut [u8], work: &mut [u32]) -> Answer {
 
 /// The service with any search; one that finds nothing is refusal 9.
 pub fn best_plan_by(
-    search: fn(&Chain) -> Option<Vec<Module>>,
+    search: impl Fn(&Chain) -> Option<Vec<Module>>,
     costs: &[u8],
     plan: &mut [u8],
     work: &mut [u32],

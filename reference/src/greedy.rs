@@ -1,49 +1,43 @@
-//! Document 01's "Bench way": the greedy procedure of 000, 4.1, with refusals 1 to 6, 7, 10, 11.
+//! Document 01's "Bench way", with the limits of document 02, M-100: the greedy procedure of 000, 4.1, with refusals 1 to 6,
+//! 7, 10, 11.
 
 use crate::answer::{Answer, Refusal, answer};
 use crate::costs::{self, Chain};
-use crate::plan::{self, Module, PLAN_BYTES};
+use crate::plan::{self, Module, PLAN_BYTES, Within};
 
 /// Fills in the assignment that the greedy walk answers with, or leaves the plan bytes as they are.
 pub fn greedy_plan(costs: &[u8], grouping: u16, plan: &mut [u8]) -> Answer {
-    greedy_plan_by(walk, costs, grouping, plan)
+    greedy_plan_by(start, walk, costs, grouping, plan)
 }
 
-/// The service with any walk from the first assignment to the answer.
+/// The service with any first assignment of a grouping's modules, or refusal, and any walk from there to the answer.
 pub fn greedy_plan_by(
-    walk: fn(&Chain, Vec<Module>) -> Vec<Module>,
+    start: impl Fn(&Chain, Vec<Module>) -> Result<Vec<Module>, Refusal>,
+    walk: impl Fn(&Chain, Vec<Module>) -> Vec<Module>,
     costs: &[u8],
     grouping: u16,
     plan: &mut [u8],
 ) -> Answer {
-    answer(start(costs, grouping, plan).map(|(chain, assignment)| {
-        let best = walk(&chain, assignment);
+    answer(grouped(costs, grouping, plan).and_then(|(chain, modules)| {
+        let best = walk(&chain, start(&chain, modules)?);
         plan[..PLAN_BYTES].copy_from_slice(&plan::encode(&best));
-        plan::figures(&chain, &best)
+        Ok(plan::figures(&chain, &best))
     }))
 }
 
-/// The first assignment: each module has the fewest cores that its memory allows.
-fn start(costs: &[u8], grouping: u16, plan: &[u8]) -> Result<(Chain, Vec<Module>), Refusal> {
+/// The chain and the modules of the grouping.
+fn grouped(costs: &[u8], grouping: u16, plan: &[u8]) -> Result<(Chain, Vec<Module>), Refusal> {
     let chain = costs::read(costs)?;
     plan::enough_bytes(plan)?;
     if grouping >> (chain.tasks - 1) != 0 {
         return Err(Refusal::new(10));
     }
-    let mut modules = groups(chain.tasks, grouping);
-    for module in &mut modules {
-        while !module.memory_fits(&chain) && module.cores <= chain.cores {
-            module.cores += 1;
-        }
-    }
-    if plan::cores(&modules) > chain.cores {
-        return Err(Refusal::new(11));
-    }
+    let modules = groups(chain.tasks, grouping);
     Ok((chain, modules))
 }
 
 /// Bit i ends a module after task i + 1; the last one ends at the last task. One copy of one core each.
-fn groups(tasks: usize, grouping: u16) -> Vec<Module> {
+pub fn groups(tasks: usize, grouping: u16) -> Vec<Module> {
     let mut modules = Vec::new();
     let mut first = 1;
     for last in 1..=tasks {
@@ -60,12 +54,55 @@ fn groups(tasks: usize, grouping: u16) -> Vec<Module> {
     modules
 }
 
-/// Gives out all cores that are left; the earliest assignment of least bottleneck is the answer.
-fn walk(chain: &Chain, start: Vec<Module>) -> Vec<Module> {
+/// The first assignment: each module has the fewest cores that its memory allows. Refusal 11 where these are more than the
+/// board has, or some module's more than its limit.
+pub fn start(chain: &Chain, modules: Vec<Module>) -> Result<Vec<Module>, Refusal> {
+    start_by(Module::within_limit, chain, modules)
+}
+
+/// The first assignment with any test of the limits.
+pub fn start_by(
+    within: Within,
+    chain: &Chain,
+    modules: Vec<Module>,
+) -> Result<Vec<Module>, Refusal> {
+    let fewest = with_fewest_cores(chain, modules);
+    let all_within = fewest.iter().all(|module| within(module, chain));
+    if plan::cores(&fewest) > chain.cores || !all_within {
+        return Err(Refusal::new(11));
+    }
+    Ok(fewest)
+}
+
+/// The modules with the fewest cores that their memory allows, one more than the board has where that is not enough.
+pub fn with_fewest_cores(chain: &Chain, mut modules: Vec<Module>) -> Vec<Module> {
+    for module in &mut modules {
+        while !module.memory_fits(chain) && module.cores <= chain.cores {
+            module.cores += 1;
+        }
+    }
+    modules
+}
+
+/// Gives out the cores that are left, or ends before where nothing comes next; the earliest assignment of least bottleneck is
+/// the answer.
+pub fn walk(chain: &Chain, start: Vec<Module>) -> Vec<Module> {
+    walk_by(give, chain, start)
+}
+
+/// The walk with any way to give out one core, or to end.
+pub fn walk_by(
+    give: impl Fn(&Chain, &[Module]) -> Option<Vec<Module>>,
+    chain: &Chain,
+    start: Vec<Module>,
+) -> Vec<Module> {
     let mut best = start.clone();
     let mut current = start;
     while plan::cores(&current) < chain.cores {
-        current = give(chain, &current);
+        let Some(next) = give(chain, &current) else {
+            break;
+        };
+        current = next;
         if plan::bottleneck(chain, &current).is_less(plan::bottleneck(chain, &best)) {
             best = current.clone();
         }
@@ -74,22 +111,42 @@ fn walk(chain: &Chain, start: Vec<Module>) -> Vec<Module> {
 }
 
 /// One more core for the first slowest module, its predecessor or its successor, by the bottleneck afterwards; where equal
-/// itself goes first, then the predecessor.
-pub fn give(chain: &Chain, current: &[Module]) -> Vec<Module> {
+/// itself goes first, then the predecessor. A module at its limit takes none; nothing comes next where none of them may take it.
+pub fn give(chain: &Chain, current: &[Module]) -> Option<Vec<Module>> {
+    give_by(Module::within_limit, chain, current)
+}
+
+/// The same with any test of the limits.
+pub fn give_by(within: Within, chain: &Chain, current: &[Module]) -> Option<Vec<Module>> {
     let slowest = plan::slowest(&plan::loads(chain, current));
-    let with_core = |i: usize| {
-        let mut given = current.to_vec();
-        given[i].cores += 1;
-        given
-    };
-    let mut choice = with_core(slowest);
-    let predecessor = slowest.checked_sub(1);
-    let successor = Some(slowest + 1).filter(|&i| i < current.len());
-    for neighbour in [predecessor, successor].into_iter().flatten() {
-        let other = with_core(neighbour);
-        if plan::bottleneck(chain, &other).is_less(plan::bottleneck(chain, &choice)) {
-            choice = other;
+    give_around(slowest, within, chain, current)
+}
+
+/// The same around any module, counted from 0, in place of the slowest one.
+pub fn give_around(
+    module: usize,
+    within: Within,
+    chain: &Chain,
+    current: &[Module],
+) -> Option<Vec<Module>> {
+    let predecessor = module.checked_sub(1);
+    let successor = Some(module + 1).filter(|&i| i < current.len());
+    let mut choice: Option<Vec<Module>> = None;
+    for i in [Some(module), predecessor, successor].into_iter().flatten() {
+        let other = with_core(current, i);
+        let is_better = choice.as_ref().is_none_or(|choice| {
+            plan::bottleneck(chain, &other).is_less(plan::bottleneck(chain, choice))
+        });
+        if within(&other[i], chain) && is_better {
+            choice = Some(other);
         }
     }
     choice
+}
+
+/// The assignment with one more core for the i-th module, counted from 0.
+pub fn with_core(current: &[Module], i: usize) -> Vec<Module> {
+    let mut given = current.to_vec();
+    given[i].cores += 1;
+    given
 }

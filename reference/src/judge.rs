@@ -1,15 +1,21 @@
-//! Document 01's Judge: the figures of given plan bytes, or refusals 1 to 6, 7, 12, 13, 14, 15.
+//! Document 01's Judge, with the limits of document 02, M-100: the figures of given plan bytes, or refusals 1 to 6, 7, 12, 13,
+//! 14, 16, 15, in this order.
 
 use crate::answer::{Answer, Refusal, answer};
 use crate::costs::{self, Chain};
-use crate::plan::{self, Module, PLAN_BYTES};
+use crate::plan::{self, Module, PLAN_BYTES, Within};
 
 /// The figures of the plan in the first 48 bytes.
 pub fn judge(costs: &[u8], plan: &[u8]) -> Answer {
-    answer(figures_or_refusal(costs, plan))
+    judge_by(Module::within_limit, costs, plan)
 }
 
-fn figures_or_refusal(costs: &[u8], plan: &[u8]) -> Result<Answer, Refusal> {
+/// The service with any test of the limits.
+pub fn judge_by(within: Within, costs: &[u8], plan: &[u8]) -> Answer {
+    answer(figures_or_refusal(within, costs, plan))
+}
+
+fn figures_or_refusal(within: Within, costs: &[u8], plan: &[u8]) -> Result<Answer, Refusal> {
     let chain = costs::read(costs)?;
     let Some(bytes) = plan.first_chunk::<PLAN_BYTES>() else {
         return Err(Refusal::new(7));
@@ -18,6 +24,7 @@ fn figures_or_refusal(costs: &[u8], plan: &[u8]) -> Result<Answer, Refusal> {
     let only_allowed_copies = |module: &Module| module.copies == 1 || module.replicable(&chain);
     test_all(&modules, 13, only_allowed_copies)?;
     test_all(&modules, 14, |module| module.memory_fits(&chain))?;
+    test_all(&modules, 16, |module| within(module, &chain))?;
     if plan::cores(&modules) > chain.cores {
         return Err(Refusal::new(15));
     }

@@ -1,4 +1,5 @@
-//! A second planner of core plans, written from document 01 (the scope), to hold the static library against.
+//! A second planner of core plans, written from documents 01 (the scope) and 02 (the requests), to hold the static library
+//! against.
 //!
 //! `costs`, `plan`, `judge`, `greedy` and `every` say what the services answer, in the most obvious way; `every` tries all
 //! plans. `threshold` is the library's own algorithm in Rust and `paper` the dynamic program of source document 000.

@@ -46,7 +46,7 @@ fn medians(costs: &[u8], searches: &[Search]) -> Vec<f64> {
     times.iter().map(|times| times[RUNS / 2]).collect()
 }
 
-/// Realistic costs, then adversarial ones: without memory needs nothing cuts the search short.
+/// Realistic costs, then adversarial ones: without memory needs and core limits nothing cuts the search short.
 fn files(tasks: usize, cores: usize) -> Vec<(&'static str, Chain)> {
     let unlimited = |kind| {
         let case = cases::sized(kind, tasks, cores, 7);
@@ -54,6 +54,7 @@ fn files(tasks: usize, cores: usize) -> Vec<(&'static str, Chain)> {
         Chain {
             needs: vec![0; tasks],
             flags: vec![true; tasks],
+            limits: vec![None; tasks],
             ..chain
         }
     };

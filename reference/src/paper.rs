@@ -61,7 +61,7 @@ fn append(chain: &Chain, table: &mut Table, first: usize, last: usize, cores: us
         copies: 1,
         cores,
     };
-    if !module.memory_fits(chain) {
+    if !module.memory_fits(chain) || !module.within_limit(chain) {
         return;
     }
     let body = module.body(chain);

@@ -1,4 +1,5 @@
-//! Document 01, "The chain and the board" and "Plan bytes": modules, rules, responses, figures and the 48 bytes.
+//! Document 01, "The chain and the board" and "Plan bytes", with the limits of document 02, M-100: modules, rules, responses,
+//! figures and the 48 bytes.
 
 use crate::answer::{Answer, Refusal};
 use crate::costs::{Chain, MOST_TASKS};
@@ -29,6 +30,18 @@ impl Module {
         need <= self.cores as u64 * u64::from(chain.capacity)
     }
 
+    /// The least of its tasks' limits, those without one left aside; none if no task has one.
+    pub fn limit(&self, chain: &Chain) -> Option<usize> {
+        (self.first..=self.last)
+            .filter_map(|task| chain.limit(task))
+            .min()
+    }
+
+    /// Whether one copy has at most as many cores as the limit says; how many copies there are does not count.
+    pub fn within_limit(&self, chain: &Chain) -> bool {
+        self.limit(chain).is_none_or(|most| self.cores <= most)
+    }
+
     /// The executions and internal transfers; what goes out and comes in is not in it.
     pub fn body(&self, chain: &Chain) -> u32 {
         let executions = (self.first..=self.last).map(|task| chain.execution(task, self.cores));
@@ -37,16 +50,25 @@ impl Module {
     }
 }
 
+/// A test of a module against the limits of its tasks: `Module::within_limit`, or one that goes wrong.
+pub type Within = fn(&Module, &Chain) -> bool;
+
 /// The sum of copies times cores.
 pub fn cores(plan: &[Module]) -> usize {
     plan.iter().map(|module| module.copies * module.cores).sum()
 }
 
-/// Whether the modules keep document 01's rules; they cover the tasks in order.
+/// Whether the modules keep the rules of document 01 and are within the limits; they cover the tasks in order.
 pub fn keeps_rules(chain: &Chain, plan: &[Module]) -> bool {
+    keeps_rules_by(Module::within_limit, chain, plan)
+}
+
+/// The rules with any test of the limits.
+pub fn keeps_rules_by(within: Within, chain: &Chain, plan: &[Module]) -> bool {
     cores(plan) <= chain.cores
         && plan.iter().all(|module| {
-            (module.copies == 1 || module.replicable(chain)) && module.memory_fits(chain)
+            let copies_allowed = module.copies == 1 || module.replicable(chain);
+            copies_allowed && module.memory_fits(chain) && within(module, chain)
         })
 }
 

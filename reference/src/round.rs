@@ -1,4 +1,4 @@
-//! All services on one accepted file, compared, with a count of what was met.
+//! All services on one file, accepted or damaged, compared, with a count of what was met.
 
 use crate::answer::Answer;
 use crate::cases::Case;
@@ -72,6 +72,32 @@ fn judge_filled(
         let service = "judge";
         return Err(Difference { service, what });
     }
+    Ok(())
+}
+
+/// Each service once on a file that may be damaged; one time in four the buffers are too short as well, which counts only if
+/// the file is accepted.
+pub fn damaged(
+    expected: &Services,
+    found: &Services,
+    costs: &[u8],
+    random: &mut Random,
+    tally: &mut Tally,
+) -> Result<(), Difference> {
+    let lent = Lent {
+        plan: random.pick(&[PLAN_BYTES, PLAN_BYTES, PLAN_BYTES + 3, PLAN_BYTES - 1]),
+        work: random.pick(&[WORK_WORDS, WORK_WORDS, WORK_WORDS + 3, WORK_WORDS - 1]),
+        seed: random.word(),
+    };
+    let (answer, _) = compare::best_plan(expected, found, costs, lent)?;
+    count("best plan", answer, tally);
+    let grouping = random.word() as u16 >> random.below(16);
+    let (answer, _) = compare::greedy_plan(expected, found, costs, grouping, lent)?;
+    count("greedy plan", answer, tally);
+    let mut plan = damage::random_plan(3, 8, random).to_vec();
+    plan.resize(lent.plan, 255);
+    let answer = compare::judge(expected, found, costs, &plan)?;
+    count("judge", answer, tally);
     Ok(())
 }
 

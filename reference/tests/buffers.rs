@@ -9,7 +9,14 @@ use reference::services::{LIBRARY, QUICK_REFERENCE, REFERENCE};
 
 /// Files that end in a plan, in refusal 9 and 11, and in refusals 1 and 6.
 fn files() -> Vec<Case> {
-    let mut files: Vec<Case> = [Kind::Realistic, Kind::Ties, Kind::NoPlan, Kind::TightMemory]
+    let kinds = [
+        Kind::Realistic,
+        Kind::Ties,
+        Kind::NoPlan,
+        Kind::TightMemory,
+        Kind::Limits,
+    ];
+    let mut files: Vec<Case> = kinds
         .into_iter()
         .map(|kind| cases::sized(kind, 3, 6, 1))
         .collect();

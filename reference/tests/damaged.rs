@@ -1,11 +1,12 @@
 //! Damaged files and damaged plans: the library refuses what the reference refuses, with the same place.
 
-use reference::answer::Answer;
+use reference::answer::{Answer, Refusal};
 use reference::cases::{self, Case, Kind};
-use reference::compare::{self, Difference, Lent};
+use reference::compare::{self, Lent};
+use reference::costs::{self, MOST_CORES, RECORD_BYTES};
 use reference::damage::{self, DAMAGES};
 use reference::every::WORK_WORDS;
-use reference::plan::{PLAN_BYTES, RECORDS};
+use reference::plan::{self, Module, PLAN_BYTES, RECORDS};
 use reference::random::Random;
 use reference::round;
 use reference::services::{LIBRARY, QUICK_REFERENCE, REFERENCE};
@@ -13,36 +14,17 @@ use reference::tally::Tally;
 
 const OF_EACH_DAMAGE: usize = 3_000;
 
-/// All three services; one time in four the buffers are too short as well, which counts only if the file is accepted.
-fn all_services(costs: &[u8], random: &mut Random, tally: &mut Tally) -> Result<(), Difference> {
-    let lent = Lent {
-        plan: random.pick(&[PLAN_BYTES, PLAN_BYTES, PLAN_BYTES + 3, PLAN_BYTES - 1]),
-        work: random.pick(&[WORK_WORDS, WORK_WORDS, WORK_WORDS + 3, WORK_WORDS - 1]),
-        seed: random.word(),
-    };
-    let (answer, _) = compare::best_plan(&REFERENCE, &LIBRARY, costs, lent)?;
-    round::count("best plan", answer, tally);
-    let grouping = random.word() as u16 >> random.below(16);
-    let (answer, _) = compare::greedy_plan(&REFERENCE, &LIBRARY, costs, grouping, lent)?;
-    round::count("greedy plan", answer, tally);
-    let mut plan = damage::random_plan(3, 8, random).to_vec();
-    plan.resize(lent.plan, 255);
-    let answer = compare::judge(&REFERENCE, &LIBRARY, costs, &plan)?;
-    round::count("judge", answer, tally);
-    Ok(())
-}
-
 #[test]
 fn damaged_files() {
     let mut tally = Tally::default();
     for seed in 0..(OF_EACH_DAMAGE * DAMAGES.len()) as u64 {
-        let mut random = Random::new(!seed);
-        let kind = DAMAGES[seed as usize % DAMAGES.len()];
-        // so that each damage meets files of all kinds
-        let file = cases::small(seed + seed / DAMAGES.len() as u64);
-        let costs = damage::damaged(&file.costs, kind, &mut random);
+        // many seeds in a row, so that each damage meets files of all kinds
+        let kind = DAMAGES[seed as usize / OF_EACH_DAMAGE];
+        let (costs, mut random) = damage::small(seed, kind);
         tally.add(format!("damage {kind:?}"));
-        if let Err(difference) = all_services(&costs, &mut random, &mut tally) {
+        if let Err(difference) =
+            round::damaged(&REFERENCE, &LIBRARY, &costs, &mut random, &mut tally)
+        {
             compare::fail(seed, &costs, &difference);
         }
     }
@@ -84,7 +66,7 @@ fn damaged_files_of_the_greatest_size() {
 
 #[test]
 fn every_byte_of_a_file() {
-    let costs = reference::costs::write(&cases::worked_example());
+    let costs = costs::write(&cases::worked_example());
     for i in 0..costs.len() {
         for value in 0..=255 {
             let mut changed = costs.clone();
@@ -99,6 +81,56 @@ fn every_byte_of_a_file() {
             }
         }
     }
+}
+
+/// Document 02, M-100: "0 for no limit, else 1 to 32". Refusal 6 tests the byte, with the record's place. The second planner's
+/// reader and all services of the library go by it.
+#[test]
+fn every_limit_of_a_task() {
+    let costs = costs::write(&cases::worked_example());
+    for task in 1..=2 {
+        for limit in 0..=255_u8 {
+            let mut changed = costs.clone();
+            changed[task * RECORD_BYTES + 3] = limit;
+            let expected = match usize::from(limit) {
+                0 => Ok(None),
+                limit @ 1..=MOST_CORES => Ok(Some(limit)),
+                _ => Err(Refusal::at(6, task + 1)),
+            };
+            let read = costs::read(&changed).map(|chain| chain.limit(task));
+            assert_eq!(read, expected, "limit {limit} of task {task}");
+            let judged = limit_by_library(&changed);
+            assert_eq!(judged, expected, "limit {limit} of task {task}, library");
+            let lent = Lent::enough(limit.into());
+            let result = compare::best_plan(&REFERENCE, &LIBRARY, &changed, lent).and_then(|_| {
+                compare::greedy_plan(&REFERENCE, &LIBRARY, &changed, 0, lent)?;
+                compare::greedy_plan(&REFERENCE, &LIBRARY, &changed, 1, lent)
+            });
+            if let Err(difference) = result {
+                compare::fail(lent.seed, &changed, &difference);
+            }
+        }
+    }
+}
+
+/// The limit of a module of tasks 1 and 2 by the library: one less than the fewest cores that Judge refuses with 16. Or
+/// the refusal of the costs.
+fn limit_by_library(costs: &[u8]) -> Result<Option<usize>, Refusal> {
+    for cores in 1..=255 {
+        let plan = plan::encode(&[Module {
+            first: 1,
+            last: 2,
+            copies: 1,
+            cores,
+        }]);
+        let answer = (LIBRARY.judge)(costs, &plan);
+        match answer.refusal {
+            number @ 1..=6 => return Err(Refusal::at(number, answer.place as usize)),
+            16 => return Ok(Some(cores - 1)),
+            _ => {}
+        }
+    }
+    Ok(None)
 }
 
 fn best_bytes(case: &Case) -> Option<Vec<u8>> {
@@ -146,7 +178,13 @@ fn changed_plans() {
     judge_all_changes(&case, &plan, &values, &mut tally);
     tally.print("plans with one byte changed");
     tally.assert_at_least("judge: figures", 1_000);
-    for (refusal, least) in [(12, 100_000), (13, 1_000), (14, 100), (15, 10_000)] {
+    for (refusal, least) in [
+        (12, 100_000),
+        (13, 1_000),
+        (14, 100),
+        (15, 10_000),
+        (16, 1_000),
+    ] {
         tally.assert_at_least(&format!("judge: refusal {refusal}"), least);
     }
 }

@@ -89,7 +89,7 @@ fn greatest_and_least_times() {
 
 #[test]
 fn sizes_between() {
-    let files = (0..180).map(|seed| {
+    let files = (0..198).map(|seed| {
         let mut random = Random::new(!seed);
         let (tasks, cores) = (random.within(4, 12), random.within(8, 20));
         let kind = KINDS[seed as usize % KINDS.len()];

@@ -1,10 +1,13 @@
 //! Many small files: the library against the planner that tries all plans, and the two quick searches against it too.
 
-use reference::cases::{self, KINDS};
+use reference::answer::Answer;
+use reference::cases::{self, KINDS, Kind};
 use reference::compare::{self, Difference, Lent};
 use reference::costs::{self, Chain, MOST_CORES, MOST_VALUE};
+use reference::every::WORK_WORDS;
+use reference::greedy;
 use reference::paper;
-use reference::plan::Load;
+use reference::plan::{self, Load, Module, PLAN_BYTES};
 use reference::round;
 use reference::services::{LIBRARY, QUICK_REFERENCE, REFERENCE};
 use reference::tally::Tally;
@@ -48,8 +51,79 @@ fn assert_all_met(tally: &Tally) {
         ("judge: refusal 13", 500),
         ("judge: refusal 14", 5_000),
         ("judge: refusal 15", 5_000),
+        ("judge: refusal 16", 5_000),
     ] {
         tally.assert_at_least(what, least);
+    }
+}
+
+/// What a planner of the second planner answers and fills in.
+type Filled = (Answer, [u8; PLAN_BYTES]);
+
+fn best_filled(chain: &Chain) -> Filled {
+    let (mut plan, mut work) = ([0; PLAN_BYTES], vec![0; WORK_WORDS]);
+    let answer = (QUICK_REFERENCE.best_plan)(&costs::write(chain), &mut plan, &mut work);
+    (answer, plan)
+}
+
+fn greedy_filled(chain: &Chain, grouping: u16) -> Filled {
+    let mut plan = [0; PLAN_BYTES];
+    let answer = (QUICK_REFERENCE.greedy_plan)(&costs::write(chain), grouping, &mut plan);
+    (answer, plan)
+}
+
+/// What the limits change for a planner.
+fn decided(with_limits: Filled, without: Filled) -> &'static str {
+    match (with_limits.0.refusal, without.0.refusal) {
+        _ if with_limits == without => "as without limits",
+        (0, 0) => "another plan",
+        _ => "no plan",
+    }
+}
+
+/// Whether the greedy walk ends while a core is left.
+fn ends_early(chain: &Chain, start: Vec<Module>) -> bool {
+    let mut current = start;
+    while plan::cores(&current) < chain.cores {
+        match greedy::give(chain, &current) {
+            Some(next) => current = next,
+            None => return true,
+        }
+    }
+    false
+}
+
+/// In the files that have limits, these change what both planners answer, and end walks.
+#[test]
+fn limits_decide() {
+    let mut tally = Tally::default();
+    let files = (0..11_000).map(cases::small);
+    for case in files.filter(|case| matches!(case.kind, Kind::Limits | Kind::TightLimits)) {
+        let chain = costs::read(&case.costs).expect("an accepted file");
+        let unlimited = Chain {
+            limits: vec![None; chain.tasks],
+            ..chain.clone()
+        };
+        let best = decided(best_filled(&chain), best_filled(&unlimited));
+        tally.add(format!("{:?}, best plan: {best}", case.kind));
+        for grouping in 0..1 << (chain.tasks - 1) {
+            let filled = greedy_filled(&chain, grouping);
+            let greedy = decided(filled, greedy_filled(&unlimited, grouping));
+            tally.add(format!("{:?}, greedy plan: {greedy}", case.kind));
+            let start = greedy::start(&chain, greedy::groups(chain.tasks, grouping));
+            if start.is_ok_and(|start| ends_early(&chain, start)) {
+                tally.add(format!("{:?}, greedy plan: a core left", case.kind));
+            }
+        }
+    }
+    tally.print("what limits decide");
+    for kind in [Kind::Limits, Kind::TightLimits] {
+        for service in ["best plan", "greedy plan"] {
+            for (what, least) in [("another plan", 200), ("no plan", 40)] {
+                tally.assert_at_least(&format!("{kind:?}, {service}: {what}"), least);
+            }
+        }
+        tally.assert_at_least(&format!("{kind:?}, greedy plan: a core left"), 500);
     }
 }
 

@@ -18,10 +18,10 @@ use Rattle.figures.specs.declared.Slowest.{Slowest}
 use Rattle.figures.specs.Model.{bottleneck}
 use Rattle.figures.specs.Rules.{covers, keepsRules}
 use Rattle.figures.specs.Claims.{loads, IsBottleneck}
+use Rattle.figures.proofs.Bounds as bounds
 use Rattle.figures.proofs.Covering as covering
 use Rattle.figures.proofs.Decoding as decoding
 use Rattle.figures.proofs.Kept as kept
-use Rattle.figures.proofs.Limits as limits
 use Rattle.figures.proofs.Tops as tops
 
 -- ---- plans that keep the rules of accepted costs: few modules, whose bytes say them again, and bounded responses
@@ -40,9 +40,9 @@ module _ (s : List ℕ) (b : Board) (c : IsCosts s b) (ms : List Module) (keeps 
   decode-encode = decoding.decode-encode (b .tasks) ms (c .ranged .some-tasks) (c .ranged .most-tasks) covered
 
   -- r and p are at most 32, and no response is above 23 values
-  pub plan-limits : (m : Module) → List·Memᴰ m ms → (m .copies ≤ mostCores) × (m .cores ≤ mostCores)
-  plan-limits m i =
-      let h = limits.module-cores (b .tasks) 1 ms covered m i in
+  pub plan-bounds : (m : Module) → List·Memᴰ m ms → (m .copies ≤ mostCores) × (m .cores ≤ mostCores)
+  plan-bounds m i =
+      let h = bounds.module-cores (b .tasks) 1 ms covered m i in
       let g = kept.keeps-parts (chainOf s b) ms keeps .2 in
       omega (arith, c .ranged .most-cores)
 
@@ -50,7 +50,7 @@ module _ (s : List ℕ) (b : Board) (c : IsCosts s b) (ms : List Module) (keeps 
   plan-responses x i =
       omega (
         arith,
-        limits.loads-most (chainOf s b) mostValue (limits.costs-most s b c) (b .tasks) 1 ms 0 1 covered (omega arith) (λ _. refl) x i,
+        bounds.loads-most (chainOf s b) mostValue (bounds.costs-most s b c) (b .tasks) 1 ms 0 1 covered (omega arith) (λ _. refl) x i,
         mul-le-mul-right {m = 2 * b .tasks - 1} {n = 23} mostValue (omega (arith, c .ranged .most-tasks)),
       )
 
@@ -58,7 +58,7 @@ module _ (s : List ℕ) (b : Board) (c : IsCosts s b) (ms : List Module) (keeps 
   plan-bottleneck =
       omega (
         arith,
-        limits.bottleneck-most (chainOf s b) mostValue (b .tasks) ms (limits.costs-most s b c) covered,
+        bounds.bottleneck-most (chainOf s b) mostValue (b .tasks) ms (bounds.costs-most s b c) covered,
         mul-le-mul-right {m = 2 * b .tasks - 1} {n = 23} mostValue (omega (arith, c .ranged .most-tasks)),
       )
 

@@ -1,9 +1,9 @@
+pub mod Bounds
 pub mod Covering
 pub mod Decoding
 pub mod Fractions
 pub mod Kept
 pub mod Laws
-pub mod Limits
 pub mod Listed
 pub mod Served
 pub mod Tops

@@ -24,6 +24,15 @@ unfolding modulesFrom
 modules-length w i zero = refl
 modules-length w i (suc n) = ap suc (modules-length w (i + 1) n)
 
+modules-from : (w : List ℕ) (n i j : ℕ) (d : Module) → j < n → getD (modulesFrom w i n) j d ≡ moduleAt w (i + j)
+unfolding modulesFrom
+modules-from w zero i j d h = absurd (omega arith)
+modules-from w (suc n) i zero d h = let e : i + 0 ≡ i = omega arith in rw e (refl)
+modules-from w (suc n) i (suc j) d h = let e : i + suc j ≡ i + 1 + j = omega arith in rw e (modules-from w n (i + 1) j d (omega arith))
+
+pub modules-at : (w : List ℕ) (n j : ℕ) (d : Module) → j < n → getD (modulesFrom w 0 n) j d ≡ moduleAt w j
+modules-at w n j d h = rw (zero-add j) at (modules-from w n 0 j d h)
+
 module _ (w : List ℕ) (i n : ℕ) where
   pub modules-step : i < n → modulesFrom w i (n - i) ≡ moduleAt w i ∷ modulesFrom w (i + 1) (n - (i + 1))
   unfolding modulesFrom

@@ -11,12 +11,11 @@ use borrow.Author.Tests.{eqb-true, eqb-false}
 use Rattle.records.specs.Costs.{readCosts}
 use Rattle.records.proofs.Cases.{lt-or-le, true-or-false}
 use Rattle.layout.specs.Layout.{planBytes}
-use Rattle.figures.specs.Model.{coresOf}
 use Rattle.figures.specs.Plan.{figuresOf}
 use Rattle.figures.proofs.Served.{Served, Served.fills, served-refusal, bytes-first}
 use Rattle.judge.specs.Claims.{Readable, chain}
-use Rattle.greedy.specs.Greedy.{start, greedyPlan, greedyAnswer, greedyBytes}
-use Rattle.greedy.proofs.Answering.{answer-costs, answer-short, answer-on, on-grouping, on-cores, on-plan, bytes-kept, bytes-filled, readable, answer-bytes}
+use Rattle.greedy.specs.Greedy.{startFits, greedyPlan, greedyAnswer, greedyBytes}
+use Rattle.greedy.proofs.Answering.{answer-costs, answer-short, answer-on, on-grouping, on-unfit, on-plan, bytes-kept, bytes-filled, readable, answer-bytes}
 
 module _ (s w : List ℕ) (g : ℕ) where
   read-served : Readable s w → Served (greedyAnswer s g w) w (greedyBytes s g w)
@@ -26,9 +25,9 @@ module _ (s w : List ℕ) (g : ℕ) where
       let on = answer-on s w g r in
       ⊎-elim
       (λ h. ⊎-elim
-      (λ l. let e = on-cores c g h l in served-refusal (on .0 ∙ e) (λ z. omega arith) (on .1 ∙ bytes-kept c g w e (λ z. omega arith)))
       (λ l. let e = on-plan c g h l in fills (ap (λ a. a .number) (on .0 ∙ e)) (greedyPlan c g) (on .1 ∙ bytes-filled c g w e))
-      (lt-or-le (c .board) (coresOf (start c g))))
+      (λ l. let e = on-unfit c g h l in served-refusal (on .0 ∙ e) (λ z. omega arith) (on .1 ∙ bytes-kept c g w e (λ z. omega arith)))
+      (true-or-false (startFits c g)))
       (λ h. let e = on-grouping c g h in served-refusal (on .0 ∙ e) (λ z. omega arith) (on .1 ∙ bytes-kept c g w e (λ z. omega arith)))
       (lt-or-le g (2 ^ (c .tasks - 1)))
 

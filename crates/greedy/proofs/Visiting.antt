@@ -24,6 +24,12 @@ module _ (c : Chain) where
         | some x ↦ ap (λ (v : List (List Module)). ms ∷ v) (visited-is n x)
       ]
 
+  -- where nobody may take a core the walk ends, however many are left
+  pub visited-ends : (n : ℕ) (ms : List Module) → next c ms ≡ none → visited c n ms ≡ ms ∷ []
+  unfolding visited
+  visited-ends zero ms e = refl
+  visited-ends (suc n) ms e = rw (e, visited)
+
   greedy-is : (n : ℕ) (ms best : List Module) → greedyFrom c n ms best ≡ bestOf c best (later n ms)
   unfolding greedyFrom later bestOf
   greedy-is zero ms best = refl

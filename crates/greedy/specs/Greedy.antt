@@ -1,20 +1,22 @@
--- The greedy procedure of source document 000, section 4.1, on document 01's terms ("Bench way"): every module has one copy,
--- and the grouping fixes which tasks share one. Assumes nothing.
+-- The greedy procedure of source document 000, section 4.1, on document 01's terms ("Bench way"), with the limits of document 02,
+-- M-100: every module has one copy, and the grouping fixes which tasks share one. Assumes nothing.
 use Prim.Native.Nat.{ℕ, zero, suc, _+_, _-_, _/_, _%_, _^_, _≤_, _<_}
 use mathlib.Core.Path.{_≡_}
 use mathlib.Core.List.{List, [], _∷_, _++_, List·Memᴰ}
 use mathlib.Core.Option.{Option, none, some}
 use mathlib.Core.Bool.{Bool, true, cond, _&&_}
-use lib.ListN.{length, drop}
+use lib.ListN.{length, getD, drop}
 use lib.Dec.{ltb, leb, eqb}
 use Rattle.records.specs.Costs.{readCosts}
 use Rattle.modules.specs.declared.Module.{Module}
 use Rattle.modules.specs.Model.{Chain, chainOf}
-use Rattle.modules.specs.Rules.{fewestCores}
+use Rattle.modules.specs.Rules.{moduleLimit, withinLimit, fewestCores}
 use Rattle.layout.specs.Layout.{planBytes, encodePlan}
 use Rattle.figures.specs.declared.Answer.{Answer}
 use Rattle.figures.specs.Model.{coresOf, bottleneck}
 use Rattle.figures.specs.Plan.{figuresOf, refusal}
+use Rattle.judge.specs.Judge.{firstFailing, limitTest}
+use Rattle.judge.specs.Claims.{noModule}
 
 -- ---- step 1: each module has the fewest cores that its memory allows
 
@@ -54,9 +56,13 @@ give [] i = []
 give (m ∷ ms) zero = record { first = m .first; last = m .last; copies = m .copies; cores = m .cores + 1 } ∷ ms
 give (m ∷ ms) (suc i) = m ∷ give ms i
 
--- who may get one: a module that exists
+-- who may get one: a module that exists and is not at its limit (M-100), so that with one core more it is within it
 unfoldable pub mayTake : Chain → List Module → ℕ → Bool
-mayTake c ms i = ltb i (length ms)
+mayTake c ms i = let m = getD ms i noModule in ltb i (length ms) && withinLimit c (m .first) (m .last) (m .cores + 1)
+
+-- M-100: the i-th module, if there is one, is at its limit
+abbrev pub AtLimit : Chain → List Module → ℕ → Type 0
+AtLimit c ms i = i < length ms → moduleLimit c (getD ms i noModule .first) (getD ms i noModule .last) ≡ getD ms i noModule .cores
 
 -- the candidate i against the best so far: it must give a smaller bottleneck, so of equals the earlier stays
 unfoldable pub consider : Chain → List Module → Option (List Module) → ℕ → Option (List Module)
@@ -102,10 +108,21 @@ greedyPlan c g = greedyFrom c (c .board - coresOf (start c g)) (start c g) (star
 
 -- ---- the service
 
+-- some module's cores exceed its limit (M-100)
+pub record OverLimit (c : Chain) (ms : List Module) : Type 0 where
+  pub at : ℕ
+  pub there : at < length ms
+  pub limited : 1 ≤ moduleLimit c (getD ms at noModule .first) (getD ms at noModule .last)
+  pub exceeds : moduleLimit c (getD ms at noModule .first) (getD ms at noModule .last) < getD ms at noModule .cores
+
+-- refusal 11 is due unless this holds: the modules' fewest cores add up to at most P, and no module's exceed its limit (M-100)
+unfoldable pub startFits : Chain → ℕ → Bool
+startFits c g = leb (coresOf (start c g)) (c .board) && eqb (firstFailing (limitTest c) 1 (start c g)) 0
+
 unfoldable pub greedyOn : Chain → ℕ → Answer
 greedyOn c g =
     cond (ltb g (2 ^ (c .tasks - 1)))
-    (cond (leb (coresOf (start c g)) (c .board)) (figuresOf c (greedyPlan c g)) (refusal 11 0))
+    (cond (startFits c g) (figuresOf c (greedyPlan c g)) (refusal 11 0))
     (refusal 10 0)
 
 -- what the service answers to costs, a grouping and plan bytes

@@ -1,4 +1,5 @@
-// Document 01's "Bench way": the greedy procedure of 000, 4.1. An assignment is held as plan bytes, all r being 1.
+// Document 01's "Bench way": the greedy procedure of 000, 4.1, within the limits of document 02, M-100. An assignment is held as plan
+// bytes, all r being 1.
 ghost use mathlib.Core.Path.{_≡_};
 ghost use mathlib.Core.List.{[]};
 ghost use Prim.Native.Nat.{_+_, _-_, _*_, _^_, _≤_, _<_};
@@ -6,10 +7,11 @@ ghost use lib.ListN.{length, getD, set};
 ghost use Rattle.modules.specs.Model.{chainOf};
 ghost use Rattle.layout.specs.Layout.{planBytes, modulesOf, encodePlan};
 ghost use Rattle.figures.specs.Model.{coresOf};
-ghost use Rattle.greedy.specs.Greedy.{bit, start, time, consider as considering, next, greedyFrom, greedyOn, greedyBytesOn, greedyAnswer, greedyBytes};
+ghost use Rattle.greedy.specs.Greedy.{bit, start, time, mayTake, consider as considering, next, greedyFrom, greedyOn, greedyBytesOn, greedyAnswer, greedyBytes};
 ghost use Rattle.greedy.specs.Assignment.{lastOf, Assigned, choiceOf, Chosen};
 use figures::Answer;
 use figures::refuse;
+use judge::limit_fault;
 use layout::PLAN_BYTES;
 use layout::put_plan;
 use modules::Module;
@@ -97,6 +99,20 @@ fn time_of(costs: &[u8], board: Board, plan: [u8; PLAN_BYTES]) -> u64
     f.response
 }
 
+// Whether there is an i-th module and it is not at its limit.
+fn may_take(costs: &[u8], board: Board, plan: [u8; PLAN_BYTES], i: u32) -> bool
+    requires { ⌜ (board .tasks ≤ 12) × Assigned (board .tasks) plan × (coresOf (modulesOf plan (board .tasks)) < 255) ⌝ }
+    ensures { λ r. ⌜ r ≡ mayTake (chainOf (now (costs .entry)) board) (modulesOf plan (board .tasks)) i ⌝ }
+{
+    let count = layout::module_count(&plan, board.tasks);
+    if count <= i {
+        return false;
+    }
+    let m = layout::module_at(&plan, i);
+    let more = m.cores + 1;
+    modules::within_limit(costs, board, m.first, m.last, more)
+}
+
 // The candidate i, where it may take a core, against the best so far.
 fn consider(costs: &[u8], board: Board, plan: [u8; PLAN_BYTES], best: Choice, i: u32) -> Choice
     requires { ⌜ (1 ≤ board .tasks) × (board .tasks ≤ 12) × Assigned (board .tasks) plan × (coresOf (modulesOf plan (board .tasks)) < 255)
@@ -104,8 +120,7 @@ fn consider(costs: &[u8], board: Board, plan: [u8; PLAN_BYTES], best: Choice, i:
     ensures { λ r. ⌜ Chosen (chainOf (now (costs .entry)) board) (modulesOf plan (board .tasks)) r
         × (choiceOf (board .tasks) r ≡ considering (chainOf (now (costs .entry)) board) (modulesOf plan (board .tasks)) (choiceOf (board .tasks) best) i) ⌝ }
 {
-    let count = layout::module_count(&plan, board.tasks);
-    if count <= i {
+    if !may_take(costs, board, plan, i) {
         return best;
     }
     let given = give(plan, i);
@@ -196,6 +211,10 @@ fn greedy_on(costs: &[u8], board: Board, grouping: u16, plan: &mut [u8]) -> Answ
     let cores = put_start(costs, board, grouping, &mut from);
     let total = board.cores as u32;
     if total < cores {
+        return refuse(11, 0);
+    }
+    let over = limit_fault(costs, board, &from);
+    if over != 0 {
         return refuse(11, 0);
     }
     let best = walk(costs, board, from, total - cores);

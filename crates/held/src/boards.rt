@@ -1,9 +1,10 @@
 // Lookups on a slice and a board, each by way of the struct that holds both (held.rt).
 ghost use mathlib.Core.Path.{_≡_};
-ghost use Rattle.lookups.specs.Lookups.{needOf, replicableOf, executionOf, internalOf, pairOf, externalOf};
+ghost use Rattle.lookups.specs.Lookups.{needOf, replicableOf, limitOf, executionOf, internalOf, pairOf, externalOf};
 use crate::held::execution_of;
 use crate::held::external_of;
 use crate::held::internal_of;
+use crate::held::limit_of;
 use crate::held::need_of;
 use crate::held::replicable_of;
 use records::Board;
@@ -20,6 +21,13 @@ pub fn replicable(costs: &[u8], board: Board, task: u8) -> bool
     ensures { λ r. ⌜ r ≡ replicableOf (now (costs .entry)) board task ⌝ }
 {
     replicable_of(costs, board.tasks, board.cores, task)
+}
+
+// The most cores that one copy with a task may have, 0 for no limit.
+pub fn limit(costs: &[u8], board: Board, task: u8) -> u32
+    ensures { λ r. ⌜ r ≡ limitOf (now (costs .entry)) board task ⌝ }
+{
+    limit_of(costs, board.tasks, board.cores, task)
 }
 
 // The execution time of a task at p cores, in ticks.

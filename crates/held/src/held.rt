@@ -1,11 +1,12 @@
 // Cost records that were read, held in a struct with k and P: few thin lookups over the functions on slice and numbers, and above
 // them functions with plain parameters that make the struct and pass it on.
 ghost use mathlib.Core.Path.{_≡_};
-ghost use Rattle.lookups.specs.Lookups.{needOf, replicableOf, executionOf, internalOf, pairOf, externalOf, boardWith};
+ghost use Rattle.lookups.specs.Lookups.{needOf, replicableOf, limitOf, executionOf, internalOf, pairOf, externalOf, boardWith};
 ghost use Rattle.held.specs.Held.{Holds};
 use lookups::execution_at;
 use lookups::external_at;
 use lookups::internal_at;
+use lookups::limit_at;
 use lookups::need_at;
 use lookups::replicable_at;
 
@@ -41,6 +42,13 @@ pub fn replicable_held<'a>(c: Costs<'a>, task: u8) -> bool
     replicable_at(c.records, c.tasks, task)
 }
 
+// The most cores that one copy with a task may have, 0 for no limit.
+pub fn limit_held<'a>(c: Costs<'a>, task: u8) -> u32
+    ensures { λ r. ⌜ r ≡ limitOf (now (c .entry .records)) (boardWith (c .entry .tasks) (c .entry .cores)) task ⌝ }
+{
+    limit_at(c.records, c.tasks, task)
+}
+
 // The execution time of a task at p cores, in ticks.
 pub fn execution_held<'a>(c: Costs<'a>, task: u8, p: u8) -> u32
     ensures { λ r. ⌜ r ≡ executionOf (now (c .entry .records)) (boardWith (c .entry .tasks) (c .entry .cores)) task p ⌝ }
@@ -74,6 +82,12 @@ pub(crate) fn replicable_of(records: &[u8], tasks: u8, cores: u8, task: u8) -> b
     ensures { λ r. ⌜ r ≡ replicableOf (now (records .entry)) (boardWith tasks cores) task ⌝ }
 {
     replicable_held(hold(records, tasks, cores), task)
+}
+
+pub(crate) fn limit_of(records: &[u8], tasks: u8, cores: u8, task: u8) -> u32
+    ensures { λ r. ⌜ r ≡ limitOf (now (records .entry)) (boardWith tasks cores) task ⌝ }
+{
+    limit_held(hold(records, tasks, cores), task)
 }
 
 pub(crate) fn execution_of(records: &[u8], tasks: u8, cores: u8, task: u8, p: u8) -> u32

@@ -7,6 +7,7 @@ mod held;
 
 pub use boards::execution;
 pub use boards::internal;
+pub use boards::limit;
 pub use boards::need;
 pub use boards::replicable;
 pub use boards::transfer;
@@ -15,5 +16,6 @@ pub use held::execution_held;
 pub use held::external_held;
 pub use held::hold;
 pub use held::internal_held;
+pub use held::limit_held;
 pub use held::need_held;
 pub use held::replicable_held;

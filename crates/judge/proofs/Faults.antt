@@ -2,7 +2,7 @@
 use mathlib.Core.Path.{_≡_, refl, sym, ap, subst, _∙_}
 use mathlib.Core.Bool.{Bool, true, false}
 use mathlib.Core.List.{List, [], _∷_}
-use mathlib.Core.Logic.{⊎-elim}
+use mathlib.Core.Logic.{_↔_, ⊎-elim}
 use Prim.Native.Nat.{ℕ, zero, suc, _+_, _≤_, _<_}
 use native.Mathlib.Numerals.{add-one}
 use native.Mathlib.Omega.{arith}
@@ -85,6 +85,9 @@ pub data Failing (f : Module → Bool) (ms : List Module) (n : ℕ) : ℕ → Ty
   first : (i : ℕ) → FailsAt f ms i → Failing f ms n (n + i)
 
 module _ (f : Module → Bool) where
+  pub pass-rest : (m : Module) (ms : List Module) → AllPass f (m ∷ ms) → AllPass f ms
+  pass-rest m ms a = record { passes = λ i l. a .passes (suc i) (omega arith) }
+
   pass-more : (m : Module) (ms : List Module) → f m ≡ true → AllPass f ms → AllPass f (m ∷ ms)
   pass-more m ms t a = record { passes = at }
     where
@@ -125,3 +128,20 @@ module _ (f : Module → Bool) where
       (λ l. true-not-false _ (g .before i l) (h .fails))
       (λ l. ⊎-elim (λ m. true-not-false _ (h .before j m) (g .fails)) (λ m. omega arith) (lt-or-le j i))
       (lt-or-le i j)
+
+  pub first-fails : (ms : List Module) (i : ℕ) → (firstFailing f 1 ms ≡ i + 1) ↔ FailsAt f ms i
+  first-fails ms i = (
+    λ e. at (firstFailing f 1 ms) e (failing ms 1),
+    λ h. failing-one ms 1 (firstFailing f 1 ms) (1 + i) (failing ms 1) (first i h) ∙ omega arith,
+  )
+    where
+      at : (a : ℕ) → a ≡ i + 1 → Failing f ms 1 a → FailsAt f ms i
+      at a e (none h) = absurd (omega arith)
+      at a e (first j h) = let d : j ≡ i = omega arith in rw (← d) h
+
+  pub none-fails : (ms : List Module) → (firstFailing f 1 ms ≡ 0) ↔ AllPass f ms
+  none-fails ms = (λ e. passing (firstFailing f 1 ms) e (failing ms 1), λ h. failing-one ms 1 (firstFailing f 1 ms) 0 (failing ms 1) (none h))
+    where
+      passing : (a : ℕ) → a ≡ 0 → Failing f ms 1 a → AllPass f ms
+      passing a e (none h) = h
+      passing a e (first i h) = absurd (omega arith)

@@ -1,15 +1,18 @@
--- What holds of Judge (document 01, "Three services", "Plan bytes", refusals 7 and 12 to 15): the laws that a reader looks for. The
--- definition is in specs/Judge; specs/Claims has the direct statements. Assumes nothing.
+-- What holds of Judge (document 01, "Three services", "Plan bytes", refusals 7 and 12 to 15; document 02, M-100, refusal 16): the laws
+-- that a reader looks for. The definition is in specs/Judge; specs/Claims has the direct statements. Assumes nothing.
 use mathlib.Core.Path.{_≡_, ap}
+use mathlib.Core.Bool.{Bool}
 use mathlib.Core.List.{List}
 use mathlib.Core.Logic.{_↔_}
-use Prim.Native.Nat.{ℕ, _≤_}
+use Prim.Native.Nat.{ℕ, _+_, _≤_}
 use lib.ListN.{length, take}
+use Rattle.modules.specs.declared.Module.{Module}
 use Rattle.layout.specs.Layout.{mostModules, planBytes, modulesOf, encodePlan}
 use Rattle.figures.specs.declared.Answer.{Answer}
 use Rattle.figures.specs.Plan.{figuresOf}
-use Rattle.judge.specs.Judge.{shapeFault, judged}
-use Rattle.judge.specs.Claims.{chain, Judges, Passes}
+use Rattle.judge.specs.Judge.{shapeFault, firstFailing, judged}
+use Rattle.judge.specs.Claims.{AllPass, FailsAt, chain, Judges, Passes}
+use Rattle.judge.proofs.Faults as faults
 use Rattle.judge.proofs.Passing as passing
 use Rattle.judge.proofs.Reading as reading
 use Rattle.judge.proofs.Shapes as shapes
@@ -30,6 +33,14 @@ module _ (s w : List ℕ) where
   -- "Bytes after the 48th are never read": the answer is that on the first 48 bytes
   pub judge-first : judged s (take planBytes w) ≡ judged s w
   judge-first = reading.judge-first s w
+
+-- ---- a test over all modules finds the first that fails, and none exactly if each passes
+
+pub first-fails : (f : Module → Bool) (ms : List Module) (i : ℕ) → (firstFailing f 1 ms ≡ i + 1) ↔ FailsAt f ms i
+first-fails = faults.first-fails
+
+pub none-fails : (f : Module → Bool) (ms : List Module) → (firstFailing f 1 ms ≡ 0) ↔ AllPass f ms
+none-fails = faults.none-fails
 
 -- ---- bytes of the right shape are the encoding of the modules that they say
 

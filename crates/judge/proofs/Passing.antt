@@ -22,28 +22,30 @@ use Rattle.figures.specs.Rules.{eachAllowed, keepsRules}
 use Rattle.figures.specs.Plan.{figuresOf, refusal}
 use Rattle.figures.proofs.Kept.{allowed-head, keeps-parts}
 use Rattle.figures.proofs.Served.{Served, Served.fills, served-refusal}
-use Rattle.judge.specs.Judge.{shapeFault, firstFailing, copiesTest, memoryTest, judgedPlan, judgedBytes, judged}
-use Rattle.judge.specs.Claims.{RightShape, noModule, AllPass, FailsAt, Readable, chain, plan, Judges, Judges.costs-wrong, Judges.bytes-short, Judges.shape-wrong, Judges.copies-wrong, Judges.memory-wrong, Judges.cores-wrong, Judges.passed, Passes}
-use Rattle.judge.proofs.Faults.{Shaped, Shaped.right, Shaped.wrong, shaped, shaped-one, Failing, Failing.none, Failing.first, failing, failing-one}
+use Rattle.judge.specs.Judge.{shapeFault, firstFailing, copiesTest, memoryTest, limitTest, judgedPlan, judgedBytes, judged}
+use Rattle.judge.specs.Claims.{RightShape, noModule, AllPass, FailsAt, Readable, chain, plan, Judges, Judges.costs-wrong, Judges.bytes-short, Judges.shape-wrong, Judges.copies-wrong, Judges.memory-wrong, Judges.limit-wrong, Judges.cores-wrong, Judges.passed, Passes}
+use Rattle.judge.proofs.Faults.{Shaped, Shaped.right, Shaped.wrong, shaped, shaped-one, Failing, Failing.none, Failing.first, pass-rest, failing, failing-one}
 use Rattle.judge.proofs.Shapes.{shape-plan, plan-shape}
 
 -- ---- what a plan keeps, module by module
 
 module _ (c : Chain) where
-  all-allowed : (ms : List Module) → AllPass (copiesTest c) ms → AllPass (memoryTest c) ms → eachAllowed c ms ≡ true
+  all-allowed : (ms : List Module) → AllPass (copiesTest c) ms → AllPass (memoryTest c) ms → AllPass (limitTest c) ms → eachAllowed c ms ≡ true
   unfolding eachAllowed moduleRules
-  all-allowed [] a b = refl
-  all-allowed (m ∷ ms) a b =
+  all-allowed [] x y z = refl
+  all-allowed (m ∷ ms) x y z =
       simp (
-        a .passes 0 (omega arith),
-        b .passes 0 (omega arith),
-        all-allowed ms (record { passes = λ i l. a .passes (suc i) (omega arith) }) (record { passes = λ i l. b .passes (suc i) (omega arith) }),
+        x .passes 0 (omega arith),
+        y .passes 0 (omega arith),
+        z .passes 0 (omega arith),
+        all-allowed ms (pass-rest (copiesTest c) m ms x) (pass-rest (memoryTest c) m ms y) (pass-rest (limitTest c) m ms z),
       )
 
-  allowed-all : (ms : List Module) → eachAllowed c ms ≡ true → (i : ℕ) → i < length ms → (copiesTest c (getD ms i noModule) ≡ true) × (memoryTest c (getD ms i noModule) ≡ true)
+  allowed-all : (ms : List Module) → eachAllowed c ms ≡ true → (i : ℕ) → i < length ms
+      → (copiesTest c (getD ms i noModule) ≡ true) × (memoryTest c (getD ms i noModule) ≡ true) × (limitTest c (getD ms i noModule) ≡ true)
   allowed-all [] e i l = absurd (omega arith)
-  allowed-all (m ∷ ms) e zero l = let h = allowed-head c m ms e in (h .0, h .1)
-  allowed-all (m ∷ ms) e (suc i) l = allowed-all ms (allowed-head c m ms e .2) i (omega arith)
+  allowed-all (m ∷ ms) e zero l = let h = allowed-head c m ms e in (h .0, h .1, h .2)
+  allowed-all (m ∷ ms) e (suc i) l = allowed-all ms (allowed-head c m ms e .3) i (omega arith)
 
 -- ---- what Judge answers is to be answered
 
@@ -51,29 +53,52 @@ module _ (s w : List ℕ) where
   k : ℕ
   k = chain s w .tasks
 
-  cores-judges : Readable s w → RightShape k w → AllPass (copiesTest (chain s w)) (plan s w) → AllPass (memoryTest (chain s w)) (plan s w)
-      → Judges s w (cond (leb (coresOf (plan s w)) (chain s w .board)) (figuresOf (chain s w) (plan s w)) (refusal 15 0))
-  unfolding k
-  cores-judges r g a b = ⊎-elim
-      (λ (t : leb (coresOf (plan s w)) (chain s w .board) ≡ true). rw t (passed r g a b (leb-true _ _ t)))
-      (λ (t : leb (coresOf (plan s w)) (chain s w .board) ≡ false). rw t (cores-wrong r g a b (leb-false _ _ t)))
-      (true-or-false (leb (coresOf (plan s w)) (chain s w .board)))
+  -- what is answered from the last test on, and from each test before it
+  by-cores : Answer
+  by-cores = cond (leb (coresOf (plan s w)) (chain s w .board)) (figuresOf (chain s w) (plan s w)) (refusal 15 0)
 
-  memory-judges : Readable s w → RightShape k w → AllPass (copiesTest (chain s w)) (plan s w) → (y : ℕ) → Failing (memoryTest (chain s w)) (plan s w) 1 y
-      → Judges s w (cond (eqb y 0) (cond (leb (coresOf (plan s w)) (chain s w .board)) (figuresOf (chain s w) (plan s w)) (refusal 15 0)) (refusal 14 y))
-  unfolding k
-  memory-judges r g a y (none h) = cores-judges r g a h
-  memory-judges r g a y (first i h) = let e : 1 + i ≡ i + 1 = omega arith in rw e (simp (ne-eqb (i + 1) 0 (λ z. omega arith)) (memory-wrong r g a i h))
+  by-limit : ℕ → Answer
+  unfolding by-cores
+  by-limit z = cond (eqb z 0) by-cores (refusal 16 z)
 
-  copies-judges : Readable s w → RightShape k w → (x : ℕ) → Failing (copiesTest (chain s w)) (plan s w) 1 x → (y : ℕ) → Failing (memoryTest (chain s w)) (plan s w) 1 y
-      → Judges s w (cond (eqb x 0) (cond (eqb y 0) (cond (leb (coresOf (plan s w)) (chain s w .board)) (figuresOf (chain s w) (plan s w)) (refusal 15 0)) (refusal 14 y)) (refusal 13 x))
-  unfolding k
-  copies-judges r g x (none h) y v = memory-judges r g h y v
-  copies-judges r g x (first i h) y v = let e : 1 + i ≡ i + 1 = omega arith in rw e (simp (ne-eqb (i + 1) 0 (λ z. omega arith)) (copies-wrong r g i h))
+  by-memory : ℕ → ℕ → Answer
+  unfolding by-limit
+  by-memory y z = cond (eqb y 0) (by-limit z) (refusal 14 y)
+
+  by-copies : ℕ → ℕ → ℕ → Answer
+  unfolding by-memory
+  by-copies x y z = cond (eqb x 0) (by-memory y z) (refusal 13 x)
+
+  module _ (r : Readable s w) (g : RightShape k w) where
+    cores-judges : AllPass (copiesTest (chain s w)) (plan s w) → AllPass (memoryTest (chain s w)) (plan s w) → AllPass (limitTest (chain s w)) (plan s w) → Judges s w by-cores
+    unfolding by-cores k
+    cores-judges x y z = ⊎-elim
+        (λ (t : leb (coresOf (plan s w)) (chain s w .board) ≡ true). rw t (passed r g x y z (leb-true _ _ t)))
+        (λ (t : leb (coresOf (plan s w)) (chain s w .board) ≡ false). rw t (cores-wrong r g x y z (leb-false _ _ t)))
+        (true-or-false (leb (coresOf (plan s w)) (chain s w .board)))
+
+    limit-judges : AllPass (copiesTest (chain s w)) (plan s w) → AllPass (memoryTest (chain s w)) (plan s w) → (z : ℕ) → Failing (limitTest (chain s w)) (plan s w) 1 z
+        → Judges s w (by-limit z)
+    unfolding by-limit k
+    limit-judges x y z (none h) = cores-judges x y h
+    limit-judges x y z (first i h) = let e : 1 + i ≡ i + 1 = omega arith in rw e (simp (ne-eqb (i + 1) 0 (λ o. omega arith)) (limit-wrong r g x y i h))
+
+    memory-judges : AllPass (copiesTest (chain s w)) (plan s w) → (y : ℕ) → Failing (memoryTest (chain s w)) (plan s w) 1 y
+        → (z : ℕ) → Failing (limitTest (chain s w)) (plan s w) 1 z → Judges s w (by-memory y z)
+    unfolding by-memory k
+    memory-judges x y (none h) z v = limit-judges x h z v
+    memory-judges x y (first i h) z v = let e : 1 + i ≡ i + 1 = omega arith in rw e (simp (ne-eqb (i + 1) 0 (λ o. omega arith)) (memory-wrong r g x i h))
+
+    copies-judges : (x : ℕ) → Failing (copiesTest (chain s w)) (plan s w) 1 x → (y : ℕ) → Failing (memoryTest (chain s w)) (plan s w) 1 y
+        → (z : ℕ) → Failing (limitTest (chain s w)) (plan s w) 1 z → Judges s w (by-copies x y z)
+    unfolding by-copies k
+    copies-judges x (none h) y u z v = memory-judges h y u z v
+    copies-judges x (first i h) y u z v = let e : 1 + i ≡ i + 1 = omega arith in rw e (simp (ne-eqb (i + 1) 0 (λ o. omega arith)) (copies-wrong r g i h))
 
   shape-judges : Readable s w → (a : ℕ) → Shaped k w a → Judges s w (cond (eqb a 0) (judgedPlan (chain s w) (plan s w)) (refusal 12 a))
-  unfolding judgedPlan k
-  shape-judges r a (right g) = copies-judges r g _ (failing (copiesTest (chain s w)) (plan s w) 1) _ (failing (memoryTest (chain s w)) (plan s w) 1)
+  unfolding judgedPlan by-copies by-memory by-limit by-cores k
+  shape-judges r a (right g) =
+      copies-judges r g _ (failing (copiesTest (chain s w)) (plan s w) 1) _ (failing (memoryTest (chain s w)) (plan s w) 1) _ (failing (limitTest (chain s w)) (plan s w) 1)
   shape-judges r a (wrong i g) = simp (ne-eqb (i + 1) 0 (λ z. omega arith)) (shape-wrong r i g)
 
   pub judge-finds : Judges s w (judged s w)
@@ -125,22 +150,34 @@ module _ (s w : List ℕ) where
         fails-value (memoryTest (chain s w)) i h,
         ne-eqb (i + 1) 0 (λ z. omega arith),
       )
-  judge-only a (cores-wrong r g x y l) =
+  judge-only a (limit-wrong r g x y i h) =
       simp (
         eq-eqb (readCosts s .number) 0 (r .accepted),
         le-leb planBytes (length w) (r .long),
         shape-value r 0 (right g),
         failing-value (copiesTest (chain s w)) 0 (none x),
         failing-value (memoryTest (chain s w)) 0 (none y),
+        fails-value (limitTest (chain s w)) i h,
+        ne-eqb (i + 1) 0 (λ z. omega arith),
+      )
+  judge-only a (cores-wrong r g x y z l) =
+      simp (
+        eq-eqb (readCosts s .number) 0 (r .accepted),
+        le-leb planBytes (length w) (r .long),
+        shape-value r 0 (right g),
+        failing-value (copiesTest (chain s w)) 0 (none x),
+        failing-value (memoryTest (chain s w)) 0 (none y),
+        failing-value (limitTest (chain s w)) 0 (none z),
         lt-leb (coresOf (plan s w)) (chain s w .board) l,
       )
-  judge-only a (passed r g x y l) =
+  judge-only a (passed r g x y z l) =
       simp (
         eq-eqb (readCosts s .number) 0 (r .accepted),
         le-leb planBytes (length w) (r .long),
         shape-value r 0 (right g),
         failing-value (copiesTest (chain s w)) 0 (none x),
         failing-value (memoryTest (chain s w)) 0 (none y),
+        failing-value (limitTest (chain s w)) 0 (none z),
         le-leb (coresOf (plan s w)) (chain s w .board) l,
       )
 
@@ -161,6 +198,7 @@ module _ (s w : List ℕ) where
       (passed r (right-of _ (shaped k w (b .some-tasks) (b .most-tasks)) (g .0))
       (record { passes = λ i l. rw (g .1) (allowed-all (chain s w) (p .modules) (h .1) i (rw (g .1) at l) .0) })
       (record { passes = λ i l. rw (g .1) (allowed-all (chain s w) (p .modules) (h .1) i (rw (g .1) at l) .1) })
+      (record { passes = λ i l. rw (g .1) (allowed-all (chain s w) (p .modules) (h .1) i (rw (g .1) at l) .2) })
       (rw (g .1) (h .2)))
 
   judges-passes : (a : Answer) → Judges s w a → a .number ≡ 0 → Passes s w
@@ -170,14 +208,15 @@ module _ (s w : List ℕ) where
   judges-passes a (shape-wrong r i g) e = absurd (omega arith)
   judges-passes a (copies-wrong r g i h) e = absurd (omega arith)
   judges-passes a (memory-wrong r g x i h) e = absurd (omega arith)
-  judges-passes a (cores-wrong r g x y l) e = absurd (omega arith)
-  judges-passes a (passed r g x y l) e =
+  judges-passes a (limit-wrong r g x y i h) e = absurd (omega arith)
+  judges-passes a (cores-wrong r g x y z l) e = absurd (omega arith)
+  judges-passes a (passed r g x y z l) e =
       let h = shape-plan k w (r .long) (shape-value r 0 (right g)) in
       record {
         readable = r;
         modules = plan s w;
         bytes = h .1;
-        keeps = simp (h .0, all-allowed (chain s w) (plan s w) x y, le-leb (coresOf (plan s w)) (chain s w .board) l);
+        keeps = simp (h .0, all-allowed (chain s w) (plan s w) x y z, le-leb (coresOf (plan s w)) (chain s w .board) l);
       }
 
   pub number-passes : judged s w .number ≡ 0 → Passes s w
@@ -195,8 +234,9 @@ module _ (s w : List ℕ) where
   judges-served a d (shape-wrong r i g) = served-refusal refl (λ z. omega arith) refl
   judges-served a d (copies-wrong r g i h) = served-refusal refl (λ z. omega arith) refl
   judges-served a d (memory-wrong r g x i h) = served-refusal refl (λ z. omega arith) refl
-  judges-served a d (cores-wrong r g x y l) = served-refusal refl (λ z. omega arith) refl
-  judges-served a d (passed r g x y l) =
+  judges-served a d (limit-wrong r g x y i h) = served-refusal refl (λ z. omega arith) refl
+  judges-served a d (cores-wrong r g x y z l) = served-refusal refl (λ z. omega arith) refl
+  judges-served a d (passed r g x y z l) =
       let p = number-passes (ap (λ (b : Answer). b .number) d) in
       fills refl (p .modules) (sym (take-append-drop planBytes w) ∙ ap (λ (v : List ℕ). v ++ drop planBytes w) (sym (p .bytes)))
 

@@ -1,14 +1,15 @@
 -- One turn of each search: what is found now, or what is left gives the same as the whole. A turn has the module that it
 -- read and the test's result. Assumes nothing.
-use mathlib.Core.Path.{_≡_, sym, _∙_}
+use mathlib.Core.Path.{_≡_, refl, sym, _∙_}
 use mathlib.Core.Bool.{Bool, true, false, not}
 use mathlib.Core.List.{List}
 use Prim.Native.Nat.{ℕ, _+_, _-_, _≤_, _<_}
 use borrow.Author.Tests.{eq-eqb, ne-eqb, not-true, not-false}
 use Rattle.modules.specs.declared.Module.{Module}
+use Rattle.modules.specs.Model.{Chain}
 use Rattle.modules.proofs.Left.{left-some, left-none}
 use Rattle.layout.specs.Layout.{moduleAt, modulesFrom}
-use Rattle.judge.specs.Judge.{isBlank, isModule, blankFault, shapeFault, firstFailing}
+use Rattle.judge.specs.Judge.{isBlank, isModule, blankFault, shapeFault, firstFailing, copiesTest, memoryTest, limitTest, ruleTest}
 
 module _ (w : List ℕ) (i n : ℕ) where
   pub blank-end : n ≤ i → blankFault w i (n - i) ≡ 0
@@ -55,3 +56,17 @@ module _ (w : List ℕ) (i n : ℕ) where
           → firstFailing f (i + 1) (modulesFrom w i (n - i)) ≡ firstFailing f (i + 1 + 1) (modulesFrom w (i + 1) (n - (i + 1)))
       unfolding firstFailing modulesFrom
       failing-next g = rw (left-some h) (simp (sym (rw e at b) ∙ not-false t g))
+
+-- the tests by their numbers
+module _ (c : Chain) (ms : List Module) where
+  pub rule-13 : firstFailing (ruleTest c 13) 1 ms ≡ firstFailing (copiesTest c) 1 ms
+  unfolding ruleTest
+  rule-13 = refl
+
+  pub rule-14 : firstFailing (ruleTest c 14) 1 ms ≡ firstFailing (memoryTest c) 1 ms
+  unfolding ruleTest
+  rule-14 = refl
+
+  pub rule-16 : firstFailing (ruleTest c 16) 1 ms ≡ firstFailing (limitTest c) 1 ms
+  unfolding ruleTest
+  rule-16 = refl

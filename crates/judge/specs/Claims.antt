@@ -1,5 +1,5 @@
--- Document 01's words on Judge's refusals as direct statements, beside the definition that runs: when each is due, with which place.
--- Assumes nothing.
+-- The documents' words on Judge's refusals as direct statements, beside the definition that runs: when each is due, with which place
+-- (document 01; document 02, M-100). Assumes nothing.
 use mathlib.Core.Path.{_≡_}
 use mathlib.Core.Bool.{Bool, true, false}
 use mathlib.Core.List.{List}
@@ -13,7 +13,7 @@ use Rattle.figures.specs.declared.Answer.{Answer}
 use Rattle.figures.specs.Model.{coresOf}
 use Rattle.figures.specs.Rules.{keepsRules}
 use Rattle.figures.specs.Plan.{figuresOf, refusal}
-use Rattle.judge.specs.Judge.{isBlank, isModule, copiesTest, memoryTest}
+use Rattle.judge.specs.Judge.{isBlank, isModule, copiesTest, memoryTest, limitTest}
 
 -- ---- refusal 12
 
@@ -42,7 +42,7 @@ pub record WrongShape (k : ℕ) (w : List ℕ) (i : ℕ) : Type 0 where
   pub before : (j : ℕ) → j < i → RightRecord k w j
   pub wrong : RightRecord k w i → ⊥
 
--- ---- refusals 13 and 14
+-- ---- refusals 13, 14 and 16
 
 abbrev pub noModule : Module
 noModule = record { first = 0; last = 0; copies = 0; cores = 0 }
@@ -78,9 +78,11 @@ module _ (s w : List ℕ) where
     shape-wrong : Readable → (i : ℕ) → WrongShape (chain .tasks) w i → Judges (refusal 12 (i + 1))
     copies-wrong : Readable → RightShape (chain .tasks) w → (i : ℕ) → FailsAt (copiesTest chain) plan i → Judges (refusal 13 (i + 1))
     memory-wrong : Readable → RightShape (chain .tasks) w → AllPass (copiesTest chain) plan → (i : ℕ) → FailsAt (memoryTest chain) plan i → Judges (refusal 14 (i + 1))
-    cores-wrong : Readable → RightShape (chain .tasks) w → AllPass (copiesTest chain) plan → AllPass (memoryTest chain) plan
+    limit-wrong : Readable → RightShape (chain .tasks) w → AllPass (copiesTest chain) plan → AllPass (memoryTest chain) plan
+        → (i : ℕ) → FailsAt (limitTest chain) plan i → Judges (refusal 16 (i + 1))
+    cores-wrong : Readable → RightShape (chain .tasks) w → AllPass (copiesTest chain) plan → AllPass (memoryTest chain) plan → AllPass (limitTest chain) plan
         → chain .board < coresOf plan → Judges (refusal 15 0)
-    passed : Readable → RightShape (chain .tasks) w → AllPass (copiesTest chain) plan → AllPass (memoryTest chain) plan
+    passed : Readable → RightShape (chain .tasks) w → AllPass (copiesTest chain) plan → AllPass (memoryTest chain) plan → AllPass (limitTest chain) plan
         → coresOf plan ≤ chain .board → Judges (figuresOf chain plan)
 
   -- the first 48 bytes are a plan's that keeps the rules

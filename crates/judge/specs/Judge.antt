@@ -1,4 +1,4 @@
--- The service Judge (document 01, "Three services", refusals 7 and 12 to 15). Assumes nothing.
+-- The service Judge (document 01, "Three services", refusals 7 and 12 to 15; document 02, M-100, refusal 16). Assumes nothing.
 use Prim.Native.Nat.{ℕ, zero, suc, _+_}
 use mathlib.Core.List.{List, [], _∷_}
 use mathlib.Core.Bool.{Bool, cond, _&&_}
@@ -7,7 +7,7 @@ use lib.Dec.{leb, eqb}
 use Rattle.records.specs.Costs.{readCosts}
 use Rattle.modules.specs.declared.Module.{Module}
 use Rattle.modules.specs.Model.{Chain, chainOf}
-use Rattle.modules.specs.Rules.{copiesAllowed, memoryFits}
+use Rattle.modules.specs.Rules.{copiesAllowed, memoryFits, withinLimit}
 use Rattle.layout.specs.Layout.{mostModules, planBytes, moduleAt, modulesOf}
 use Rattle.figures.specs.declared.Answer.{Answer}
 use Rattle.figures.specs.Model.{coresOf}
@@ -36,7 +36,7 @@ shapeFault k w due i (suc n) =
     let rest = cond (eqb (m .last) k) (blankFault w (i + 1) n) (shapeFault k w (m .last + 1) (i + 1) n) in
     cond (isModule k due m) rest (i + 1)
 
--- ---- 13, 14, 15: each over all modules before the next
+-- ---- 13, 14, 16, 15: each over all modules before the next
 
 -- the number of the first module, counted from n, that fails the test; 0 for none
 unfoldable pub firstFailing : (Module → Bool) → ℕ → List Module → ℕ
@@ -49,14 +49,25 @@ copiesTest c m = copiesAllowed c (m .first) (m .last) (m .copies)
 abbrev pub memoryTest : Chain → Module → Bool
 memoryTest c m = memoryFits c (m .first) (m .last) (m .cores)
 
--- the tests in document 01's order, on a plan of the right shape
+-- M-100: the module is within its limit
+abbrev pub limitTest : Chain → Module → Bool
+limitTest c m = withinLimit c (m .first) (m .last) (m .cores)
+
+-- the test of a module that a refusal is due to, by its number: 13, 14, else 16
+unfoldable pub ruleTest : Chain → ℕ → Module → Bool
+ruleTest c number m = cond (eqb number 13) (copiesTest c m) (cond (eqb number 14) (memoryTest c m) (limitTest c m))
+
+-- the tests in their order, on a plan of the right shape: document 01's, and 16 after 14 and before 15 (M-100)
 unfoldable pub judgedPlan : Chain → List Module → Answer
 judgedPlan c ms =
     let copies = firstFailing (copiesTest c) 1 ms in
     let memory = firstFailing (memoryTest c) 1 ms in
+    let limit = firstFailing (limitTest c) 1 ms in
     cond (eqb copies 0)
     (cond (eqb memory 0)
+    (cond (eqb limit 0)
     (cond (leb (coresOf ms) (c .board)) (figuresOf c ms) (refusal 15 0))
+    (refusal 16 limit))
     (refusal 14 memory))
     (refusal 13 copies)
 

@@ -1,5 +1,7 @@
-// The service Judge (document 01, "Three services"; refusals 1 to 7 and 12 to 15), over the figures of a plan. Its definition is
-// specs/Judge.antt, document 01's conditions as direct statements are specs/Claims.antt, and the laws proofs/Laws.antt.
+// The service Judge (document 01, "Three services"; refusals 1 to 7 and 12 to 15; document 02, M-100, refusal 16), over the figures of
+// a plan. Its definition is specs/Judge.antt, the documents' conditions as direct statements are specs/Claims.antt, and the laws
+// proofs/Laws.antt.
 mod verdict;
 
 pub use verdict::judge;
+pub use verdict::limit_fault;

@@ -2,8 +2,8 @@
 ghost use mathlib.Core.Path.{_≡_};
 ghost use Prim.Native.Nat.{_-_, _≤_};
 ghost use Rattle.modules.specs.Model.{chainOf};
-ghost use Rattle.layout.specs.Layout.{mostModules, modulesFrom, modulesOf};
-ghost use Rattle.judge.specs.Judge.{isBlank, isModule, blankFault, shapeFault, firstFailing, copiesTest, memoryTest, judgedPlan, judgedBytes, judged};
+ghost use Rattle.layout.specs.Layout.{mostModules, modulesOf};
+ghost use Rattle.judge.specs.Judge.{isBlank, isModule, blankFault, shapeFault, firstFailing, limitTest, ruleTest, judgedPlan, judgedBytes, judged};
 use figures::Answer;
 use figures::cores_used;
 use figures::refuse;
@@ -14,6 +14,7 @@ use layout::module_count;
 use modules::Module;
 use modules::copies_allowed;
 use modules::memory_fits;
+use modules::within_limit;
 use records::Board;
 
 // Whether a record is all 0.
@@ -87,50 +88,57 @@ fn shape_fault(plan: &[u8], k: u8) -> u32
     i + 1
 }
 
-// Refusal 13's place: the first of count modules with copies that a task forbids, counted from 1; 0 for none.
-fn copies_fault(costs: &[u8], board: Board, plan: &[u8], count: u32) -> u32
-    requires { ⌜ count ≤ mostModules ⌝ }
-    ensures { λ r. ⌜ r ≡ firstFailing (copiesTest (chainOf (now (costs .entry)) board)) 1 (modulesFrom (now (plan .entry)) 0 count) ⌝ }
+// Whether the module passes the test that a refusal is due to, by its number: 13 copies, 14 memory, else 16, the limit.
+fn keeps_rule(costs: &[u8], board: Board, number: u32, m: Module) -> bool
+    ensures { λ r. ⌜ r ≡ ruleTest (chainOf (now (costs .entry)) board) number m ⌝ }
 {
+    if number == 13 {
+        return copies_allowed(costs, board, m.first, m.last, m.copies);
+    }
+    if number == 14 {
+        return memory_fits(costs, board, m.first, m.last, m.cores);
+    }
+    within_limit(costs, board, m.first, m.last, m.cores)
+}
+
+// The place of refusal 13, 14 or 16, by its number: the first module of the plan that fails the test, counted from 1; 0 for none.
+fn rule_fault(costs: &[u8], board: Board, plan: &[u8], number: u32) -> u32
+    ensures { λ r. ⌜ r ≡ firstFailing (ruleTest (chainOf (now (costs .entry)) board) number) 1 (modulesOf (now (plan .entry)) (board .tasks)) ⌝ }
+{
+    let count = module_count(plan, board.tasks);
     let mut i: u32 = 0;
     while i < count {
         let m = module_at(plan, i);
         i += 1;
-        if !copies_allowed(costs, board, m.first, m.last, m.copies) {
+        if !keeps_rule(costs, board, number, m) {
             return i;
         }
     }
     0
 }
 
-// Refusal 14's place: the first of count modules whose memory does not fit, counted from 1; 0 for none.
-fn memory_fault(costs: &[u8], board: Board, plan: &[u8], count: u32) -> u32
-    requires { ⌜ count ≤ mostModules ⌝ }
-    ensures { λ r. ⌜ r ≡ firstFailing (memoryTest (chainOf (now (costs .entry)) board)) 1 (modulesFrom (now (plan .entry)) 0 count) ⌝ }
+// The place of refusal 16 (document 02, M-100): the first module of the plan that is over its limit, counted from 1; 0 for none.
+pub fn limit_fault(costs: &[u8], board: Board, plan: &[u8]) -> u32
+    ensures { λ r. ⌜ r ≡ firstFailing (limitTest (chainOf (now (costs .entry)) board)) 1 (modulesOf (now (plan .entry)) (board .tasks)) ⌝ }
 {
-    let mut i: u32 = 0;
-    while i < count {
-        let m = module_at(plan, i);
-        i += 1;
-        if !memory_fits(costs, board, m.first, m.last, m.cores) {
-            return i;
-        }
-    }
-    0
+    rule_fault(costs, board, plan, 16)
 }
 
-// The tests of a plan of the right shape, each over all modules before the next: refusals 13, 14 and 15, then the figures.
+// The tests of a plan of the right shape, each over all modules before the next: refusals 13, 14, 16 and 15, then the figures.
 fn judge_plan(costs: &[u8], board: Board, plan: &[u8]) -> Answer
     ensures { λ r. ⌜ r ≡ judgedPlan (chainOf (now (costs .entry)) board) (modulesOf (now (plan .entry)) (board .tasks)) ⌝ }
 {
-    let count = module_count(plan, board.tasks);
-    let copies = copies_fault(costs, board, plan, count);
+    let copies = rule_fault(costs, board, plan, 13);
     if copies != 0 {
         return refuse(13, copies);
     }
-    let memory = memory_fault(costs, board, plan, count);
+    let memory = rule_fault(costs, board, plan, 14);
     if memory != 0 {
         return refuse(14, memory);
+    }
+    let limit = limit_fault(costs, board, plan);
+    if limit != 0 {
+        return refuse(16, limit);
     }
     let cores = cores_used(plan, board.tasks);
     if (board.cores as u32) < cores {

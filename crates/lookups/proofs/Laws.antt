@@ -5,9 +5,9 @@ use Prim.Native.Nat.{ℕ, _≤_, _<_}
 use lib.Dec.{eqb}
 use Rattle.fields.specs.Fields.{byteAt, valueAt}
 use Rattle.records.specs.declared.Board.{Board}
-use Rattle.records.specs.Costs.{mostValue, key}
+use Rattle.records.specs.Costs.{mostCores, mostValue, key}
 use Rattle.records.specs.Format.{IsCosts}
-use Rattle.lookups.specs.Lookups.{RecordSays, needOf, replicableOf, executionOf, internalOf, pairOf, externalOf}
+use Rattle.lookups.specs.Lookups.{RecordSays, needOf, replicableOf, limitOf, executionOf, internalOf, pairOf, externalOf}
 use Rattle.lookups.proofs.Looked as looked
 
 module _ (s : List ℕ) (b : Board) (c : IsCosts s b) where
@@ -17,6 +17,9 @@ module _ (s : List ℕ) (b : Board) (c : IsCosts s b) where
 
   pub replicable-says : (t : ℕ) → 1 ≤ t → t ≤ b .tasks → RecordSays s b (key 2 t 0 0) (λ n. eqb (byteAt s n 2) 1) (replicableOf s b t)
   replicable-says = looked.replicable-says s b c
+
+  pub limit-says : (t : ℕ) → 1 ≤ t → t ≤ b .tasks → RecordSays s b (key 2 t 0 0) (λ n. byteAt s n 3) (limitOf s b t)
+  limit-says = looked.limit-says s b c
 
   pub execution-says : (t p : ℕ) → 1 ≤ t → 1 ≤ p → p ≤ b .cores → t ≤ b .tasks → RecordSays s b (key 3 t p 0) (valueAt s) (executionOf s b t p)
   execution-says = looked.execution-says s b c
@@ -28,9 +31,12 @@ module _ (s : List ℕ) (b : Board) (c : IsCosts s b) where
       → RecordSays s b (key 5 t x q) (valueAt s) (externalOf (pairOf s b t) (b .cores) x q)
   external-says = looked.external-says s b c
 
-  -- and none, at any numbers, is above the most value
+  -- and none, at any numbers, is above the most value, nor a limit above the most cores
   pub need-most : (t : ℕ) → needOf s b t ≤ mostValue
   need-most = looked.need-most s b c
+
+  pub limit-most : (t : ℕ) → limitOf s b t ≤ mostCores
+  limit-most = looked.limit-most s b c
 
   pub execution-most : (t p : ℕ) → executionOf s b t p ≤ mostValue
   execution-most = looked.execution-most s b c

@@ -14,11 +14,11 @@ use borrow.Author.Tests.{eq-eqb, le-leb, eqb-true, eqb-false}
 use Rattle.fields.specs.Fields.{byteAt, valueAt}
 use Rattle.records.specs.declared.Board.{Board}
 use Rattle.records.specs.declared.Key.{Key}
-use Rattle.records.specs.Costs.{mostValue, key, dueKey, countOf}
+use Rattle.records.specs.Costs.{mostCores, mostValue, key, dueKey, countOf}
 use Rattle.records.specs.Format.{Bears, InRange, IsCosts}
 use Rattle.records.proofs.Cases.{true-or-false, and-true}
 use Rattle.records.proofs.Listing.{key-at}
-use Rattle.lookups.specs.Lookups.{within, hasNext, cellOf, needOf, replicableOf, executionOf, internalOf, pairPlace, pairOf, externalOf, RecordSays}
+use Rattle.lookups.specs.Lookups.{within, hasNext, cellOf, needOf, replicableOf, limitOf, executionOf, internalOf, pairPlace, pairOf, externalOf, RecordSays}
 use Rattle.lookups.proofs.Inside.{within-true, within-bounds, has-next-true, has-next-bounds}
 use Rattle.lookups.proofs.Places.{cellOf-lt, placeOf, place-of-due, due-task, due-execution, due-internal, due-external}
 
@@ -58,8 +58,11 @@ module _ (s : List ℕ) (b : Board) (c : IsCosts s b) where
   one-place n d e x y = ⊎-elim
       (λ t. let two = eqb-true (d .kind) 2 t in simp (eq-eqb (d .kind) 2 two, eq-eqb (e .kind) 2 (sym (y .kind) ∙ x .kind ∙ two)) (sym (x .task) ∙ y .task))
       (λ t. let other = eqb-false (d .kind) 2 t in
-      cc (sym (x .kind) ∙ y .kind, sym (x .task) ∙ y .task, sym (x .a other) ∙ y .a (λ q. other (sym (x .kind) ∙ y .kind ∙ q)), sym (x .b) ∙ y .b))
+      cc (sym (x .kind) ∙ y .kind, sym (x .task) ∙ y .task, sym (x .a other) ∙ y .a (differs other), sym (x .b other) ∙ y .b (differs other)))
       (true-or-false (eqb (d .kind) 2))
+    where
+      differs : (d .kind ≡ 2 → ⊥) → e .kind ≡ 2 → ⊥
+      differs other q = other (sym (x .kind) ∙ y .kind ∙ q)
 
   place-of-bearer : (d : Key) → (d .kind ≡ 1 → ⊥) → (n : ℕ) → n < count → Bears s n d → n ≡ place d
   unfolding place count
@@ -93,12 +96,20 @@ module _ (s : List ℕ) (b : Board) (c : IsCosts s b) where
     unfolding replicableOf
     replicable-says = task-says (λ n. eqb (byteAt s n 2) 1) (replicableOf s b t) (simp (within-true t (b .tasks) l u))
 
-    need-in-range : valueAt s t ≤ mostValue
-    need-in-range = right-at t (key 2 t 0 0) l task-there (due-task (b .tasks) (b .cores) t l u) .1 .value
+    pub limit-says : RecordSays s b (key 2 t 0 0) (λ n. byteAt s n 3) (limitOf s b t)
+    unfolding limitOf
+    limit-says = task-says (λ n. byteAt s n 3) (limitOf s b t) (simp (within-true t (b .tasks) l u))
+
+    task-in-range : InRange s t (key 2 t 0 0)
+    task-in-range = right-at t (key 2 t 0 0) l task-there (due-task (b .tasks) (b .cores) t l u) .1
 
   pub need-most : (t : ℕ) → needOf s b t ≤ mostValue
   unfolding needOf
-  need-most t = most-where (within t (b .tasks)) (valueAt s t) mostValue (λ e. let h = within-bounds t (b .tasks) e in need-in-range t (h .0) (h .1))
+  need-most t = most-where (within t (b .tasks)) (valueAt s t) mostValue (λ e. let h = within-bounds t (b .tasks) e in task-in-range t (h .0) (h .1) .value)
+
+  pub limit-most : (t : ℕ) → limitOf s b t ≤ mostCores
+  unfolding limitOf
+  limit-most t = most-where (within t (b .tasks)) (byteAt s t 3) mostCores (λ e. let h = within-bounds t (b .tasks) e in task-in-range t (h .0) (h .1) .limit refl)
 
   -- ---- kinds 3 and 4
 

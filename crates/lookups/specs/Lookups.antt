@@ -36,6 +36,10 @@ needOf s b t = cond (within t (b .tasks)) (valueAt s t) 0
 unfoldable pub replicableOf : List ℕ → Board → ℕ → Bool
 replicableOf s b t = within t (b .tasks) && eqb (byteAt s t 2) 1
 
+-- M-100: the most cores that one copy with task t may have; 0 where the task has no limit, or there is no such task
+unfoldable pub limitOf : List ℕ → Board → ℕ → ℕ
+limitOf s b t = cond (within t (b .tasks)) (byteAt s t 3) 0
+
 -- the execution time of task t at p cores; 0 where there is no such task or p
 unfoldable pub executionOf : List ℕ → Board → ℕ → ℕ → ℕ
 executionOf s b t p = cond (within t (b .tasks) && within p (b .cores)) (valueAt s (1 + b .tasks + cellOf (b .cores) t p)) 0

@@ -8,6 +8,7 @@ pub use lookup::execution_at;
 pub use lookup::external;
 pub use lookup::external_at;
 pub use lookup::internal_at;
+pub use lookup::limit_at;
 pub use lookup::need_at;
 pub use lookup::pair;
 pub use lookup::replicable_at;

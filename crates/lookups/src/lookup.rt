@@ -2,7 +2,7 @@
 // or an empty part. On accepted costs each is the value of the record that bears the key.
 ghost use mathlib.Core.Path.{_≡_};
 ghost use Prim.Native.Nat.{_≤_, _<_};
-ghost use Rattle.lookups.specs.Lookups.{within, hasNext, needOf, replicableOf, cellOf, executionOf, internalOf, pairPlace, pairOf, externalOf, boardWith};
+ghost use Rattle.lookups.specs.Lookups.{within, hasNext, needOf, replicableOf, limitOf, cellOf, executionOf, internalOf, pairPlace, pairOf, externalOf, boardWith};
 use fields::byte_at;
 use fields::value_at;
 use fields::wide;
@@ -94,6 +94,17 @@ pub fn replicable_at(costs: &[u8], k: u8, task: u8) -> bool
         flag == 1
     } else {
         false
+    }
+}
+
+// The most cores that one copy with a task of a chain of k may have, 0 for no limit (document 02, M-100).
+pub fn limit_at(costs: &[u8], k: u8, task: u8) -> u32
+    ensures { λ r. ⌜ r ≡ limitOf (now (costs .entry)) (boardWith k 0) task ⌝ }
+{
+    if is_within(task, k) {
+        byte_at(costs, wide(task), 3)
+    } else {
+        0
     }
 }
 

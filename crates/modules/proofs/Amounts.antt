@@ -10,7 +10,8 @@ use lib.Dec.{leb, eqb}
 use borrow.Author.Tests.{le-leb, eq-eqb, leb-true, eqb-true}
 use Rattle.records.proofs.Cases.{lt-or-le, and-true, or-unless, or-right}
 use Rattle.modules.specs.Model.{Chain, run, gather, nothing, body, transfer, response}
-use Rattle.modules.specs.Rules.{memoryFits, mark, copiesAllowed, moduleRules}
+use Rattle.modules.specs.Rules.{memoryFits, mark, copiesAllowed, withinLimit, moduleRules}
+use Rattle.modules.proofs.Limiting.{limit-drop}
 use Rattle.modules.proofs.Sums.{gather-some, gather-none}
 
 -- ---- the sum
@@ -89,7 +90,10 @@ module _ (c : Chain) (first last from to : ℕ) (h : first ≤ from) (i : to ≤
 
   pub rules-drop : (r p : ℕ) → moduleRules c first last r p ≡ true → moduleRules c from to r p ≡ true
   unfolding moduleRules
-  rules-drop r p e = let t = and-true (copiesAllowed c first last r) (memoryFits c first last p) e in simp (copies-drop r (t .0), memory-drop p (t .1))
+  rules-drop r p e =
+      let t = and-true _ (withinLimit c first last p) e in
+      let u = and-true (copiesAllowed c first last r) (memoryFits c first last p) (t .0) in
+      simp (copies-drop r (u .0), memory-drop p (u .1), limit-drop c first last from to h i p (t .1))
 
   pub body-drop : (p : ℕ) → body c from to p ≤ body c first last p
   unfolding body

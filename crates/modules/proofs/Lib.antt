@@ -3,4 +3,6 @@ pub mod Ends
 pub mod Fewest
 pub mod Laws
 pub mod Left
+pub mod Lengthening
+pub mod Limiting
 pub mod Sums

@@ -5,15 +5,17 @@ use mathlib.Core.List.{List}
 use mathlib.Core.Bool.{Bool, cond, _||_}
 use lib.Dec.{ltb, eqb}
 use Rattle.records.specs.declared.Board.{Board}
-use Rattle.lookups.specs.Lookups.{needOf, replicableOf, executionOf, internalOf, pairOf, externalOf}
+use Rattle.lookups.specs.Lookups.{needOf, replicableOf, limitOf, executionOf, internalOf, pairOf, externalOf}
 
--- k tasks, a board of P cores of that capacity, and what each task needs and takes; each function is 0 out of range
+-- k tasks, a board of P cores of that capacity, and what each task needs, allows and takes; each function is 0 out of range, and a
+-- limit of 0 is none (M-100)
 pub record Chain : Type 0 where
   pub tasks : ℕ
   pub board : ℕ
   pub capacity : ℕ
   pub need : (t : ℕ) → ℕ
   pub replicable : (t : ℕ) → Bool
+  pub limit : (t : ℕ) → ℕ
   pub execution : (t p : ℕ) → ℕ
   pub internal : (t p : ℕ) → ℕ
   pub external : (t s q : ℕ) → ℕ
@@ -26,6 +28,7 @@ chainOf s b = record {
   capacity = b .capacity;
   need = needOf s b;
   replicable = replicableOf s b;
+  limit = limitOf s b;
   execution = executionOf s b;
   internal = internalOf s b;
   external = λ t x q. externalOf (pairOf s b t) (b .cores) x q;

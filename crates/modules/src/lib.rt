@@ -1,5 +1,5 @@
-// A module of a plan (document 01, "The chain and the board"; source document 000, 2.1 and 2.2): what it costs and which rules it
-// keeps.
+// A module of a plan (document 01, "The chain and the board"; document 02, M-100; source document 000, 2.1 and 2.2): what it costs
+// and which rules it keeps.
 //
 // Whatever lies above takes every cost and test of a module from here. No public function has a `requires`: each answers for all
 // bytes, boards and numbers. A task, a count of copies and a count of cores are one byte each, as in plan bytes.
@@ -13,6 +13,8 @@ pub use rules::copies_allowed;
 pub use rules::fewest_cores;
 pub use rules::memory_fits;
 pub use rules::rules_met;
+pub use rules::still_kept;
+pub use rules::within_limit;
 
 // A module of a plan: an unbroken run of tasks, first to last, in r copies of p cores each.
 pub struct Module {

@@ -1,7 +1,7 @@
 // What a module has to keep by itself, and the fewest cores that its memory allows.
 ghost use mathlib.Core.Path.{_≡_};
 ghost use Rattle.modules.specs.Model.{chainOf};
-ghost use Rattle.modules.specs.Rules.{copiesAllowed, memoryFits, moduleRules, fewestCores};
+ghost use Rattle.modules.specs.Rules.{copiesAllowed, memoryFits, allows, withinLimit, moduleRules, stillKept, fewestCores};
 use crate::cost::marks;
 use crate::cost::needs;
 use records::Board;
@@ -24,11 +24,52 @@ pub fn copies_allowed(costs: &[u8], board: Board, first: u8, last: u8, r: u8) ->
     marks(costs, board, first, last) == 0
 }
 
+// Whether a task allows p cores of a copy: it has no limit, or p is at most it.
+fn task_allows(costs: &[u8], board: Board, t: u8, p: u8) -> bool
+    ensures { λ x. ⌜ x ≡ allows (chainOf (now (costs .entry)) board .limit t) p ⌝ }
+{
+    let limit = held::limit(costs, board, t);
+    if limit == 0 {
+        return true;
+    }
+    (p as u32) <= limit
+}
+
+// Whether p cores of a copy are within the module's limit (document 02, M-100): each of its tasks allows them.
+pub fn within_limit(costs: &[u8], board: Board, first: u8, last: u8, p: u8) -> bool
+    ensures { λ x. ⌜ x ≡ withinLimit (chainOf (now (costs .entry)) board) first last p ⌝ }
+{
+    if last < first {
+        return true;
+    }
+    let mut t = first;
+    while t < last {
+        if !task_allows(costs, board, t, p) {
+            return false;
+        }
+        t += 1;
+    }
+    task_allows(costs, board, last, p)
+}
+
 // Whether the module may have r copies of p cores.
 pub fn rules_met(costs: &[u8], board: Board, first: u8, last: u8, r: u8, p: u8) -> bool
     ensures { λ x. ⌜ x ≡ moduleRules (chainOf (now (costs .entry)) board) first last r p ⌝ }
 {
-    if copies_allowed(costs, board, first, last, r) {
+    if !copies_allowed(costs, board, first, last, r) {
+        return false;
+    }
+    if !memory_fits(costs, board, first, last, p) {
+        return false;
+    }
+    within_limit(costs, board, first, last, p)
+}
+
+// What is left to ask of a module of one copy that kept the rules without its last task: that task's limit, and its memory.
+pub fn still_kept(costs: &[u8], board: Board, first: u8, last: u8, p: u8) -> bool
+    ensures { λ x. ⌜ x ≡ stillKept (chainOf (now (costs .entry)) board) first last p ⌝ }
+{
+    if task_allows(costs, board, last, p) {
         memory_fits(costs, board, first, last, p)
     } else {
         false

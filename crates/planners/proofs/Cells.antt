@@ -1,6 +1,6 @@
 -- The table of a chain as the planner computes it: what it reads depends on the board's size alone, the least over the copies is
--- one division, and last tasks past the first that the memory does not allow add nothing. By the search's laws at the problem of a
--- chain. Assumes nothing.
+-- one division, and last tasks past the first at which a module of one copy breaks a rule add nothing. By the search's laws at the
+-- problem of a chain. Assumes nothing.
 use mathlib.Core.Path.{_≡_, refl, sym, _∙_}
 use mathlib.Core.Bool.{Bool, true, false, _&&_, _||_, and-true, or-comm}
 use mathlib.Core.List.{List}
@@ -12,8 +12,8 @@ use lib.Dec.{T, leb, leb→le, le→leb, not-T}
 use Rattle.records.specs.declared.Board.{Board}
 use Rattle.records.proofs.Cases.{true-not-false, false-unless}
 use Rattle.modules.specs.Model.{Chain, response, transfer, body}
-use Rattle.modules.specs.Rules.{moduleRules, copiesAllowed, memoryFits}
-use Rattle.modules.proofs.Laws.{memory-drop}
+use Rattle.modules.specs.Rules.{moduleRules, copiesAllowed}
+use Rattle.modules.proofs.Laws.{rules-drop, rules-apart}
 use Rattle.search.specs.Least.{pick, lesser, least}
 use Rattle.search.specs.Copies.{loadOf, fewest}
 use Rattle.search.specs.Plan.{cap}
@@ -68,21 +68,20 @@ pub response-parts : (c : Chain) (s t l r p q : ℕ) → response c s (t + 1) l 
 unfolding response
 response-parts c s t l r p q = let e : t + 1 - 1 ≡ t = omega arith in rw e
 
--- where its memory fits, only its copies are left to ask for
-pub fits-rules : (c : Chain) (first last r p : ℕ) → memoryFits c first last p ≡ true → moduleRules c first last r p ≡ copiesAllowed c first last r
-unfolding moduleRules
-fits-rules c first last r p e = rw (e, and-true)
+-- where it keeps the rules in one copy, only its copies are left to ask for
+pub one-rules : (c : Chain) (first last r p : ℕ) → moduleRules c first last 1 p ≡ true → moduleRules c first last r p ≡ copiesAllowed c first last r
+one-rules c first last r p e = rules-apart c first last r p ∙ rw (e, and-true)
 
--- what is known of it once it is summed up and its rules are asked for at two copies
-pub loaded : {c : Chain} {s t q l received stay : ℕ} {rep : Bool} → t < l → l ≤ c .tasks → memoryFits c (t + 1) l q ≡ true → received ≡ transfer c t s q
-    → received < 4294967296 → (stay ≡ body c (t + 1) l q) × (stay < 4398046511104) → rep ≡ moduleRules c (t + 1) l 2 q → Loaded c s t q l (received + stay) rep
-loaded {c} {s} {t} {q} {l} later inside fits a low b rules = record {
+-- what is known of it once it is summed up and two copies are asked for
+pub loaded : {c : Chain} {s t q l received stay : ℕ} {rep : Bool} → t < l → l ≤ c .tasks → moduleRules c (t + 1) l 1 q ≡ true → received ≡ transfer c t s q
+    → received < 4294967296 → (stay ≡ body c (t + 1) l q) × (stay < 4398046511104) → rep ≡ copiesAllowed c (t + 1) l 2 → Loaded c s t q l (received + stay) rep
+loaded {c} {s} {t} {q} {l} later inside keeps a low b copies = record {
   later = later;
   inside = inside;
-  fits = fits;
+  keeps = keeps;
   taken = omega (arith, a, b .0);
   low = omega arith;
-  replicable = rules ∙ fits-rules c (t + 1) l 2 q fits;
+  replicable = copies;
 }
 
 -- ---- over the copies: r are the fewest that are enough, and their load is the same for each number of copies
@@ -91,7 +90,7 @@ module _ {c : Chain} {s t q l base : ℕ} {rep : Bool} (h : Loaded c s t q l bas
     (is-fewest : r ≡ fewest rep ((base + sent) * grain) ((base + sent) * grain) n) (some : 1 ≤ q) (rest : Table) where
   allows : (i : ℕ) → moduleRules c (t + 1) l i q ≡ (true && (rep || leb i 1))
   unfolding copiesAllowed
-  allows i = fits-rules c (t + 1) l i q (h .fits) ∙ rw (h .replicable) (or-comm (leb i 1) _)
+  allows i = one-rules c (t + 1) l i q (h .keeps) ∙ rw (h .replicable) (or-comm (leb i 1) _)
 
   loads : (i : ℕ) → response c s (t + 1) l i q q′ * grain ≡ loadOf ((base + sent) * grain) ((base + sent) * grain) i
   loads i =
@@ -123,19 +122,19 @@ module _ {c : Chain} {s t q l base : ℕ} {rep : Bool} (h : Loaded c s t q l bas
 -- ---- over the last task
 
 module _ (c : Chain) (n s t q : ℕ) (rest : Table) where
-  -- nothing comes of a last task at which the memory does not fit
-  next-unfit : (l : ℕ) → memoryFits c (t + 1) l q ≡ false → overNext (problem c) (fitsAt (problem c) n) rest s t q l ≡ cap (problem c)
-  unfolding overNext moduleRules
+  -- nothing comes of a last task at which the module breaks a rule in one copy
+  next-unfit : (l : ℕ) → moduleRules c (t + 1) l 1 q ≡ false → overNext (problem c) (fitsAt (problem c) n) rest s t q l ≡ cap (problem c)
+  unfolding overNext
   next-unfit l e = least-none (cap (problem c)) (suc (c .board)) _ (λ q′ b.
       rw (overCopies-none (problem c) (fitsAt (problem c) n) rest s t q l q′ (λ i _.
       not-T (fitsAt (problem c) n s t l i q q′) (λ u.
-      let d : T (memoryFits c (t + 1) l q) = search (and-l, and-r) in
-      rw e at d))) (le-refl (cap (problem c))))
+      let d : T (moduleRules c (t + 1) l i q) = search (and-l, and-r) in
+      and-r (copiesAllowed c (t + 1) l i) false (rw (rules-apart c (t + 1) l i q, e) at d)))) (le-refl (cap (problem c))))
 
   -- nor of a later one: the loop may stop
-  pub last-stop : (l m : ℕ) → l ≤ c .tasks → memoryFits c (t + 1) l q ≡ false → m ≡ least (cap (problem c)) l (overNext (problem c) (fitsAt (problem c) n) rest s t q)
+  pub last-stop : (l m : ℕ) → l ≤ c .tasks → moduleRules c (t + 1) l 1 q ≡ false → m ≡ least (cap (problem c)) l (overNext (problem c) (fitsAt (problem c) n) rest s t q)
       → m ≡ overLast (problem c) (fitsAt (problem c) n) rest s t q
   unfolding overLast
   last-stop l m h e d = d ∙ sym (least-stop (cap (problem c)) l (suc (c .tasks)) _ (omega arith) (λ i a b.
-      rw (next-unfit i (false-unless (memoryFits c (t + 1) i q) (λ u. memory-drop c (t + 1) i (t + 1) l (le-refl (t + 1)) a q u) (λ v. true-not-false (memoryFits c (t + 1) l q) v e)))
+      rw (next-unfit i (false-unless (moduleRules c (t + 1) i 1 q) (λ u. rules-drop c (t + 1) i (t + 1) l (le-refl (t + 1)) a 1 q u) (λ v. true-not-false (moduleRules c (t + 1) l 1 q) v e)))
       (least-cap (cap (problem c)) l _)))

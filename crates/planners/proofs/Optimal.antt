@@ -18,7 +18,7 @@ use Rattle.figures.specs.declared.Slowest.{Slowest}
 use Rattle.figures.specs.Model.{headCores, responseOf, bottleneck}
 use Rattle.figures.specs.Rules.{keepsRules}
 use Rattle.figures.specs.Claims.{loads}
-use Rattle.figures.proofs.Limits.{loads-most, costs-most}
+use Rattle.figures.proofs.Bounds.{loads-most, costs-most}
 use Rattle.search.specs.Plan.{valid}
 use Rattle.search.specs.Bottleneck as abstract
 use Rattle.search.specs.Bottleneck.{rules, Keeps, planBottleneck}

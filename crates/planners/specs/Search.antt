@@ -8,7 +8,7 @@ use lib.Dec.{eqb}
 use Rattle.records.specs.declared.Board.{Board}
 use Rattle.modules.specs.declared.Module.{Module}
 use Rattle.modules.specs.Model.{Chain, response, transfer, body}
-use Rattle.modules.specs.Rules.{moduleRules, copiesAllowed, memoryFits}
+use Rattle.modules.specs.Rules.{moduleRules, copiesAllowed}
 use Rattle.search.specs.Least.{pick}
 use Rattle.search.specs.Plan.{Problem}
 use Rattle.search.specs.Walk.{Room, choice}
@@ -60,11 +60,12 @@ pub record Placed (b : Board) (n s t q : ℕ) : Type 0 where
   pub some-cores : 1 ≤ q
   pub room : s + q ≤ b .cores
 
--- what is known of the module up to task l: its memory fits, what it takes before it sends, and whether it may have copies
+-- what is known of the module up to task l: in one copy it keeps the rules, what it takes before it sends, and whether it may have
+-- copies
 pub record Loaded (c : Chain) (s t q l base : ℕ) (rep : Bool) : Type 0 where
   pub later : t < l
   pub inside : l ≤ c .tasks
-  pub fits : memoryFits c (t + 1) l q ≡ true
+  pub keeps : moduleRules c (t + 1) l 1 q ≡ true
   pub taken : base ≡ transfer c t s q + body c (t + 1) l q
   pub low : base < 17592186044416
   pub replicable : rep ≡ copiesAllowed c (t + 1) l 2

@@ -5,7 +5,7 @@ ghost use mathlib.Core.Bool.{true};
 ghost use Prim.Native.Nat.{_+_, _≤_, _<_};
 ghost use lib.ListN.{length};
 ghost use Rattle.modules.specs.Model.{chainOf};
-ghost use Rattle.modules.specs.Rules.{memoryFits};
+ghost use Rattle.modules.specs.Rules.{moduleRules};
 ghost use Rattle.search.specs.Least.{lesser as lesserOf};
 ghost use Rattle.search.specs.Copies.{fewest};
 ghost use Rattle.search.specs.Weight.{overCopies, overNext, overLast};
@@ -95,15 +95,15 @@ fn over_copies(
     lesser(none, price + rest)
 }
 
-// And over the cores of the module after it, where its memory fits.
+// And over the cores of the module after it, where in one copy it keeps the rules.
 fn over_next(costs: &[u8], board: Board, work: &[u32], n: u64, s: u8, t: u8, q: u8, l: u8) -> u32
-    requires { ⌜ Holds board (now work) × Placed board n s t q × (t < l) × (l ≤ board .tasks) × (memoryFits (chainOf (now costs) board) (t + 1) l q ≡ true) ⌝ }
+    requires { ⌜ Holds board (now work) × Placed board n s t q × (t < l) × (l ≤ board .tasks) × (moduleRules (chainOf (now costs) board) (t + 1) l 1 q ≡ true) ⌝ }
     ensures { λ r. ⌜ (r ≡ overNext (problem (chainOf (now (costs .entry)) board)) (fitsAt (problem (chainOf (now (costs .entry)) board)) n)
         (readTable (problem (chainOf (now (costs .entry)) board)) (now (work .entry))) s t q l) × (r ≤ board .cores + 1) ⌝ }
 {
     let received = modules::transfer(costs, board, t, s, q) as u64;
     let base = received + modules::body(costs, board, t + 1, l, q);
-    let rep = modules::rules_met(costs, board, t + 1, l, 2, q);
+    let rep = modules::copies_allowed(costs, board, t + 1, l, 2);
     if l == board.tasks {
         return over_copies(costs, board, work, n, s, t, q, l, 0, base, rep);
     }
@@ -118,7 +118,7 @@ fn over_next(costs: &[u8], board: Board, work: &[u32], n: u64, s: u8, t: u8, q: 
     m
 }
 
-// And over its last task, up to the first that its memory does not allow: one cell of the table.
+// And over its last task, up to the first that its memory or its limit does not allow: one cell of the table.
 fn over_last(costs: &[u8], board: Board, work: &[u32], n: u64, s: u8, t: u8, q: u8) -> u32
     requires { ⌜ Holds board (now work) × Placed board n s t q ⌝ }
     ensures { λ r. ⌜ (r ≡ overLast (problem (chainOf (now (costs .entry)) board)) (fitsAt (problem (chainOf (now (costs .entry)) board)) n)
@@ -127,7 +127,7 @@ fn over_last(costs: &[u8], board: Board, work: &[u32], n: u64, s: u8, t: u8, q: 
     let mut m = (board.cores as u32) + 1;
     let mut l = t + 1;
     while l <= board.tasks {
-        if !modules::memory_fits(costs, board, t + 1, l, q) {
+        if !modules::still_kept(costs, board, t + 1, l, q) {
             return m;
         }
         let v = over_next(costs, board, work, n, s, t, q, l);

@@ -1,5 +1,5 @@
 -- Cases on numbers and tests. Assumes nothing.
-use mathlib.Core.Path.{_≡_, refl}
+use mathlib.Core.Path.{_≡_, refl, sym}
 use mathlib.Core.Bool.{Bool, true, false, _&&_, _||_}
 use mathlib.Core.Logic.{_⊎_, inl, inr}
 use Prim.Native.Nat.{ℕ, zero, suc, _*_, _≤_, _<_}
@@ -25,6 +25,11 @@ true-not-false t p q = let z : _≡_ {A = ℕ} 0 1 = cc in absurd (omega arith)
 pub false-unless : {A : Type 0} (t : Bool) → (t ≡ true → A) → (A → ⊥) → t ≡ false
 false-unless true f n = absurd (n (f refl))
 false-unless false f n = refl
+
+-- tests that hold together are the same
+pub same-test : (t u : Bool) → (t ≡ true → u ≡ true) → (u ≡ true → t ≡ true) → t ≡ u
+same-test true u f g = sym (f refl)
+same-test false u f g = sym (false-unless u g (λ e. true-not-false false e refl))
 
 pub and-true : (t u : Bool) → (t && u) ≡ true → (t ≡ true) × (u ≡ true)
 and-true true u e = (refl, e)

@@ -2,7 +2,7 @@
 -- `readCosts` finds exactly what is to be found. Assumes nothing.
 use mathlib.Core.Path.{_≡_, refl, sym, _∙_}
 use mathlib.Core.List.{List}
-use mathlib.Core.Bool.{true, false, cond, not}
+use mathlib.Core.Bool.{true, false, cond, not, _&&_, _||_}
 use mathlib.Core.Logic.{⊎-elim}
 use Prim.Native.Nat.{ℕ, suc, _+_, _*_, _%_, _≤_, _<_}
 use native.Mathlib.Nat.{mul-mod-right}
@@ -27,21 +27,26 @@ module _ (s : List ℕ) (n : ℕ) (d : Key) where
   meets-bears : keyMeets s n d ≡ true → Bears s n d
   unfolding keyMeets
   meets-bears e =
-      let h₃ = and-true _ _ e in
-      let h₂ = and-true _ _ (h₃ .0) in
+      let h₂ = and-true _ _ e in
       let h₁ = and-true _ _ (h₂ .0) in
       record {
         kind = eqb-true _ _ (h₁ .0);
         task = eqb-true _ _ (h₁ .1);
-        a = λ other. eqb-true _ _ (or-right (eqb (d .kind) 2) _ (h₃ .1) (ne-eqb (d .kind) 2 other));
-        b = eqb-true _ _ (h₂ .1);
+        a = λ other. eqb-true _ _ (both (h₂ .1) other .0);
+        b = λ other. eqb-true _ _ (both (h₂ .1) other .1);
       }
+    where
+      both : (eqb (d .kind) 2 || (eqb (byteAt s n 2) (d .a) && eqb (byteAt s n 3) (d .b))) ≡ true → (d .kind ≡ 2 → ⊥)
+          → (eqb (byteAt s n 2) (d .a) ≡ true) × (eqb (byteAt s n 3) (d .b) ≡ true)
+      both h other = and-true _ _ (or-right (eqb (d .kind) 2) _ h (ne-eqb (d .kind) 2 other))
 
   bears-meets : Bears s n d → keyMeets s n d ≡ true
   unfolding keyMeets
   bears-meets h =
-      simp (eq-eqb (byteAt s n 0) (d .kind) (h .kind), eq-eqb (byteAt s n 1) (d .task) (h .task), eq-eqb (byteAt s n 3) (d .b) (h .b))
-      (or-unless (eqb (d .kind) 2) (eqb (byteAt s n 2) (d .a)) (λ f. eq-eqb _ _ (h .a (eqb-false (d .kind) 2 f))))
+      simp (eq-eqb (byteAt s n 0) (d .kind) (h .kind), eq-eqb (byteAt s n 1) (d .task) (h .task))
+      (or-unless (eqb (d .kind) 2) (eqb (byteAt s n 2) (d .a) && eqb (byteAt s n 3) (d .b)) (λ f.
+      let other = eqb-false (d .kind) 2 f in
+      simp (eq-eqb (byteAt s n 2) (d .a) (h .a other), eq-eqb (byteAt s n 3) (d .b) (h .b other))))
 
   meets-in-range : valueMeets s n d ≡ true → InRange s n d
   unfolding valueMeets
@@ -49,14 +54,20 @@ module _ (s : List ℕ) (n : ℕ) (d : Key) where
       let h = and-true _ _ e in
       record {
         value = leb-true _ _ (h .0);
-        flag = λ two. leb-true _ _ (or-right (not (eqb (d .kind) 2)) _ (h .1) (simp (eq-eqb (d .kind) 2 two)));
+        flag = λ two. leb-true _ _ (both (h .1) two .0);
+        limit = λ two. leb-true _ _ (both (h .1) two .1);
       }
+    where
+      both : (not (eqb (d .kind) 2) || (leb (byteAt s n 2) 1 && leb (byteAt s n 3) mostCores)) ≡ true → d .kind ≡ 2
+          → (leb (byteAt s n 2) 1 ≡ true) × (leb (byteAt s n 3) mostCores ≡ true)
+      both h two = and-true _ _ (or-right (not (eqb (d .kind) 2)) _ h (simp (eq-eqb (d .kind) 2 two)))
 
   in-range-meets : InRange s n d → valueMeets s n d ≡ true
   unfolding valueMeets
   in-range-meets h =
       simp (le-leb (valueAt s n) mostValue (h .value))
-      (or-unless (not (eqb (d .kind) 2)) (leb (byteAt s n 2) 1) (λ f. le-leb _ _ (h .flag (two f))))
+      (or-unless (not (eqb (d .kind) 2)) (leb (byteAt s n 2) 1 && leb (byteAt s n 3) mostCores) (λ f.
+      simp (le-leb (byteAt s n 2) 1 (h .flag (two f)), le-leb (byteAt s n 3) mostCores (h .limit (two f)))))
     where
       two : not (eqb (d .kind) 2) ≡ false → d .kind ≡ 2
       two f = ⊎-elim (λ t. eqb-true _ _ t) (λ (t : eqb (d .kind) 2 ≡ false). true-not-false (not (eqb (d .kind) 2)) (simp t) f) (true-or-false (eqb (d .kind) 2))

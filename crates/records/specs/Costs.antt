@@ -42,7 +42,7 @@ abbrev pub join : ℕ → (ℕ → List Key) → List Key
 join = joinFrom 0
 
 -- the keys of a file of k tasks and p cores as document 01 lists them: by kind, task, a, b, all rising
--- (a of kind 2, the flag, is free and stands as 0)
+-- (a and b of kind 2, the flag and M-100's limit, are free and stand as 0)
 unfoldable pub dueKeys : ℕ → ℕ → List Key
 dueKeys k p =
     key 1 0 p k
@@ -70,14 +70,14 @@ dueKey k p n =
 
 -- ---- one record against a due key
 
--- refusal 5: kind, task, a and b of record n are the due ones, the flag of kind 2 aside
+-- refusal 5: kind, task, a and b of record n are the due ones, the flag and the limit (M-100) of kind 2 aside
 unfoldable pub keyMeets : List ℕ → ℕ → Key → Bool
 keyMeets s n d =
-    eqb (byteAt s n 0) (d .kind) && eqb (byteAt s n 1) (d .task) && eqb (byteAt s n 3) (d .b) && (eqb (d .kind) 2 || eqb (byteAt s n 2) (d .a))
+    eqb (byteAt s n 0) (d .kind) && eqb (byteAt s n 1) (d .task) && (eqb (d .kind) 2 || (eqb (byteAt s n 2) (d .a) && eqb (byteAt s n 3) (d .b)))
 
--- refusal 6: the value of record n is in range and, of kind 2, the flag too
+-- refusal 6: the value of record n is in range and, of kind 2, the flag and the limit too: 0 for none, else 1 to 32 (M-100)
 unfoldable pub valueMeets : List ℕ → ℕ → Key → Bool
-valueMeets s n d = leb (valueAt s n) mostValue && (not (eqb (d .kind) 2) || leb (byteAt s n 2) 1)
+valueMeets s n d = leb (valueAt s n) mostValue && (not (eqb (d .kind) 2) || (leb (byteAt s n 2) 1 && leb (byteAt s n 3) mostCores))
 
 -- the refusal that record n deserves, 0 for none; in one record 5 goes first
 unfoldable pub faultAt : List ℕ → ℕ → Key → ℕ

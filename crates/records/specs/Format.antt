@@ -10,17 +10,18 @@ use Rattle.records.specs.declared.Reading.{Reading}
 use Rattle.records.specs.declared.Key.{Key}
 use Rattle.records.specs.Costs.{mostTasks, mostCores, mostValue, key, dueKeys, countOf, boardOf, accepted, refused}
 
--- record n of s has that kind, task, a and b, the flag of kind 2 aside
+-- record n of s has that kind, task, a and b, the flag and the limit (M-100) of kind 2 aside
 pub record Bears (s : List ℕ) (n : ℕ) (d : Key) : Type 0 where
   pub kind : byteAt s n 0 ≡ d .kind
   pub task : byteAt s n 1 ≡ d .task
   pub a : (d .kind ≡ 2 → ⊥) → byteAt s n 2 ≡ d .a
-  pub b : byteAt s n 3 ≡ d .b
+  pub b : (d .kind ≡ 2 → ⊥) → byteAt s n 3 ≡ d .b
 
--- its value is in range and, of kind 2, its flag
+-- its value is in range and, of kind 2, its flag and its limit: 0 for none, else 1 to 32 (M-100)
 pub record InRange (s : List ℕ) (n : ℕ) (d : Key) : Type 0 where
   pub value : valueAt s n ≤ mostValue
   pub flag : d .kind ≡ 2 → byteAt s n 2 ≤ 1
+  pub limit : d .kind ≡ 2 → byteAt s n 3 ≤ mostCores
 
 -- whole records, one at least
 pub record Whole (s : List ℕ) : Type 0 where

@@ -10,6 +10,9 @@ use fields::wide;
 // The most that a value of any kind may be, in KiB or ticks.
 pub(crate) const MOST_VALUE: u32 = 1000000;
 
+// The most cores of a board, and the greatest limit of a task.
+pub(crate) const MOST_CORES: u8 = 32;
+
 // How many records a file of k tasks and p cores has.
 pub fn count(k: u8, p: u8) -> u32
     ensures { λ r. ⌜ r ≡ countOf k p ⌝ }
@@ -72,7 +75,7 @@ pub(crate) fn due(k: u8, p: u8, n: u32) -> Key
     }
 }
 
-// Whether the first four bytes of record n are the key, the flag of kind 2 aside.
+// Whether the first four bytes of record n are the key, the flag and the limit of kind 2 aside.
 fn key_meets(costs: &[u8], n: u32, key: Key) -> bool
     ensures { λ r. ⌜ r ≡ keyMeets (now (costs .entry)) n key ⌝ }
 {
@@ -84,18 +87,18 @@ fn key_meets(costs: &[u8], n: u32, key: Key) -> bool
     if task != key.task {
         return false;
     }
-    let b = byte_at(costs, n, 3);
-    if b != key.b {
-        return false;
-    }
     if kind == 2 {
         return true;
     }
     let a = byte_at(costs, n, 2);
-    a == key.a
+    if a != key.a {
+        return false;
+    }
+    let b = byte_at(costs, n, 3);
+    b == key.b
 }
 
-// Whether the value of record n is in range and, where the key is of kind 2, the flag too.
+// Whether the value of record n is in range and, where the key is of kind 2, the flag and the limit too.
 fn value_meets(costs: &[u8], n: u32, key: Key) -> bool
     ensures { λ r. ⌜ r ≡ valueMeets (now (costs .entry)) n key ⌝ }
 {
@@ -107,7 +110,11 @@ fn value_meets(costs: &[u8], n: u32, key: Key) -> bool
         return true;
     }
     let flag = byte_at(costs, n, 2);
-    flag <= 1
+    if 1 < flag {
+        return false;
+    }
+    let limit = byte_at(costs, n, 3);
+    limit <= wide(MOST_CORES)
 }
 
 // The refusal that record n deserves where the key is due: 5, 6 or, for none, 0.

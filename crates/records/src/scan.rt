@@ -6,6 +6,7 @@ ghost use Rattle.records.specs.Costs.{dueKeys, firstFault, boardMeets, r
 use crate::Board;
 use crate::Reading;
 use crate::Refusal;
+use crate::keys::MOST_CORES;
 use crate::keys::MOST_VALUE;
 use crate::keys::count;
 use crate::keys::due;
@@ -13,10 +14,8 @@ use crate::keys::fault;
 use fields::byte_at;
 use fields::value_at;
 
-// The most tasks of a chain and the most cores of a board.
+// The most tasks of a chain.
 const MOST_TASKS: u8 = 12;
-
-const MOST_CORES: u8 = 32;
 
 // Record size in bytes.
 const RECORD: usize = 8;

@@ -4,15 +4,15 @@ use Prim.Native.Nat.{ℕ, _+_, _*_, _%_}
 use mathlib.Core.Path.{_≡_, refl}
 use mathlib.Core.Bool.{true, false}
 use mathlib.Core.List.{List, [], _∷_, _++_, map}
-use lib.ListN.{length, replicate, set}
+use lib.ListN.{length, getD, replicate, set}
 use lib.Dec.{eqb}
 use Rattle.records.specs.declared.Board.{Board}
 use Rattle.records.specs.Costs.{eachFrom, joinFrom, dueKeys, countOf, accepted, keyMeets, valueMeets, faultAt, firstFault, lengthMeets, headMeets, boardMeets, readRecords, readHead, readCosts}
 use Rattle.fields.specs.Fields.{valueAt}
-use Rattle.lookups.specs.Lookups.{within, hasNext, cellOf, needOf, replicableOf, executionOf, internalOf, pairPlace, pairOf, externalOf}
+use Rattle.lookups.specs.Lookups.{within, hasNext, cellOf, needOf, replicableOf, limitOf, executionOf, internalOf, pairPlace, pairOf, externalOf}
 use Rattle.modules.specs.declared.Module.{Module}
 use Rattle.modules.specs.Model.{Chain, chainOf, run, gather, body, transfer, response}
-use Rattle.modules.specs.Rules.{memoryFits, fewestFrom, fewestCores}
+use Rattle.modules.specs.Rules.{memoryFits, tighter, limitFrom, moduleLimit, allows, withinLimit, fewestFrom, fewestCores}
 use Rattle.layout.specs.Layout.{recordOf, countFrom, moduleCount, modulesFrom, modulesOf, putModule}
 use Rattle.figures.specs.Model.{responses, coresOf, slowerOf, slowestFrom, bottleneck}
 use Rattle.figures.specs.Plan.{figuresOf, responseAt}
@@ -59,6 +59,11 @@ flags : map (replicableOf smallDock (board 4 100)) few ≡ false ∷ true ∷ tr
 unfolding within replicableOf smallDock
 flags = refl
 
+-- M-100: task 1 at most 3 cores; what is no task has no limit, whatever its bytes say
+limits : map (limitOf (set smallDock 11 3) (board 4 100)) few ≡ 0 ∷ 3 ∷ 0 ∷ 0 ∷ 0 ∷ 0 ∷ []
+unfolding within limitOf smallDock
+limits = refl
+
 executions : map (executionOf smallDock (board 4 100) 2) few ++ map (λ t. executionOf smallDock (board 4 100) t 1) few
     ≡ 0 ∷ 20 ∷ 10 ∷ 8 ∷ 6 ∷ 0 ∷ 0 ∷ 12 ∷ 20 ∷ 0 ∷ 0 ∷ 0 ∷ []
 unfolding valueAt within cellOf executionOf smallDock
@@ -98,6 +103,29 @@ memories :
     × (map (memoryFits dock 2 1) few ≡ replicate 6 true)
 unfolding valueAt within needOf run gather memoryFits smallDock
 memories = (refl, refl, refl, refl)
+
+-- M-100: the least limit of a run of tasks with limits 0, 5, 2, 0, 9, 2, those without one left aside; what it allows
+abbrev limited : Chain
+limited = record {
+  tasks = 6;
+  board = 9;
+  capacity = 1;
+  need = λ t. 0;
+  replicable = λ t. true;
+  limit = λ t. getD (0 ∷ 0 ∷ 5 ∷ 2 ∷ 0 ∷ 9 ∷ 2 ∷ []) t 0;
+  execution = λ t p. 0;
+  internal = λ t p. 0;
+  external = λ t s q. 0;
+}
+
+module-limits :
+    (map (moduleLimit limited 1) few ≡ 0 ∷ 0 ∷ 5 ∷ 2 ∷ 2 ∷ 2 ∷ [])
+    × (map (λ t. moduleLimit limited t 5) few ≡ 2 ∷ 2 ∷ 2 ∷ 2 ∷ 9 ∷ 9 ∷ [])
+    × (map (withinLimit limited 1 3) few ≡ true ∷ true ∷ true ∷ false ∷ false ∷ false ∷ [])
+    × (map (withinLimit limited 4 4) few ≡ replicate 6 true)
+    × (withinLimit limited 4 5 9 ≡ true) × (withinLimit limited 4 5 10 ≡ false) × (withinLimit limited 4 6 3 ≡ false)
+unfolding tighter limitFrom moduleLimit allows withinLimit
+module-limits = (refl, refl, refl, refl, refl, refl, refl)
 
 -- of tasks 1 to 2, 1, 2, 3 (which is not there) and 2 to 1; one more than the board has where none do
 fewest : (cores capacity : ℕ) → List ℕ
@@ -201,6 +229,7 @@ rising = record {
   capacity = 100;
   need = λ t. 10 * t;
   replicable = λ t. eqb (t % 2) 1;
+  limit = λ t. 0;
   execution = λ t p. 1000 * t + p;
   internal = λ t p. 100 * t + p;
   external = λ t s q. 10000 * t + 100 * s + q;

@@ -31,6 +31,12 @@ impl<'a> Lookup<'a> {
         self.bytes[task * RECORD_BYTES + 2] == 1
     }
 
+    /// Whether a copy of p cores is within the task's limit; 0 is no limit.
+    pub fn within_limit(&self, task: usize, p: usize) -> bool {
+        let limit = usize::from(self.bytes[task * RECORD_BYTES + 3]);
+        limit == 0 || p <= limit
+    }
+
     fn execution(&self, task: usize, p: usize) -> u64 {
         self.value(1 + self.tasks + (task - 1) * self.cores + p - 1)
     }
@@ -66,14 +72,22 @@ impl<'a> Lookup<'a> {
         sum <= p as u64 * self.capacity
     }
 
+    /// Whether the module may have several copies.
+    pub fn copies_allowed(&self, first: usize, last: usize) -> bool {
+        let mut marks = 0;
+        for task in first..=last {
+            marks += u32::from(!self.replicable(task));
+        }
+        marks == 0
+    }
+
     /// Whether the module may have r copies of p cores.
     pub fn rules_met(&self, first: usize, last: usize, r: usize, p: usize) -> bool {
-        if r > 1 {
-            let mut marks = 0;
-            for task in first..=last {
-                marks += u32::from(!self.replicable(task));
-            }
-            if marks > 0 {
+        if r > 1 && !self.copies_allowed(first, last) {
+            return false;
+        }
+        for task in first..=last {
+            if !self.within_limit(task, p) {
                 return false;
             }
         }

@@ -58,11 +58,11 @@ fn over_copies(
     none.min(price + read(costs, work, place.q, l, next))
 }
 
-/// And over the cores of the module after it, where its memory fits.
+/// And over the cores of the module after it, where its memory fits and it is within its limit.
 fn over_next(costs: &Lookup, work: &[u32], n: u64, place: Place, l: usize) -> u32 {
     let Place { s, t, q } = place;
     let base = costs.transfer(t, s, q) + costs.body(t + 1, l, q);
-    let module = (base, costs.rules_met(t + 1, l, 2, q));
+    let module = (base, costs.copies_allowed(t + 1, l));
     if l == costs.tasks {
         return over_copies(costs, work, n, place, (l, 0), module);
     }
@@ -73,11 +73,12 @@ fn over_next(costs: &Lookup, work: &[u32], n: u64, place: Place, l: usize) -> u3
     least
 }
 
-/// And over its last task, up to the first that its memory does not allow: one cell of the table.
+/// And over its last task, up to the first that has too low a limit or that its memory does not allow: one cell of the table.
 fn over_last(costs: &Lookup, work: &[u32], n: u64, place: Place) -> u32 {
     let mut least = costs.cores as u32 + 1;
     for l in place.t + 1..=costs.tasks {
-        if !costs.memory_fits(place.t + 1, l, place.q) {
+        // the tasks before the last one have passed
+        if !costs.within_limit(l, place.q) || !costs.memory_fits(place.t + 1, l, place.q) {
             return least;
         }
         least = least.min(over_next(costs, work, n, place, l));

@@ -19,6 +19,12 @@ const FORMS: [(u8, &str); 7] = [
     (5, "external of task # at # to #"),
 ];
 
+/// Where the flag and the limit stand in a task's record, and how one task's and every task's are named.
+const TASK_BYTES: [(usize, &str, &str); 2] = [
+    (2, "flag of task # = #", "every flag = #"),
+    (3, "limit of task # = #", "every limit = #"),
+];
+
 pub fn parse(text: &str) -> Result<Vec<u8>, String> {
     let mut parts = text.split(", ");
     let mut bytes = named(&mut parts)?;
@@ -106,11 +112,14 @@ fn change(bytes: &mut Vec<u8>, text: &str) -> Result<(), String> {
     if let Some([at, value]) = matched("byte # = #", text) {
         return set_byte(bytes, at as usize, value);
     }
-    if let Some([task, flag]) = matched("flag of task # = #", text) {
-        return set_flags(bytes, flag, &|key| key[0] == 2 && u32::from(key[1]) == task);
-    }
-    if let Some([flag]) = matched("every flag = #", text) {
-        return set_flags(bytes, flag, &|key| key[0] == 2);
+    for (at, of_task, of_every) in TASK_BYTES {
+        if let Some([task, value]) = matched(of_task, text) {
+            let is_due = |record: &[u8]| record[0] == 2 && u32::from(record[1]) == task;
+            return set_task_bytes(bytes, at, value, &is_due);
+        }
+        if let Some([value]) = matched(of_every, text) {
+            return set_task_bytes(bytes, at, value, &|record| record[0] == 2);
+        }
     }
     if let Some((field, record)) = text.split_once(" of record ") {
         return change_record(bytes, field, record);
@@ -133,9 +142,15 @@ fn set_byte(bytes: &mut [u8], at: usize, value: u32) -> Result<(), String> {
     Ok(())
 }
 
-fn set_flags(bytes: &mut [u8], flag: u32, fits: &dyn Fn(&[u8]) -> bool) -> Result<(), String> {
+/// One byte of each record that fits.
+fn set_task_bytes(
+    bytes: &mut [u8],
+    at: usize,
+    value: u32,
+    fits: &dyn Fn(&[u8]) -> bool,
+) -> Result<(), String> {
     for place in places(bytes, fits)? {
-        set_byte(bytes, place * RECORD_BYTES + 2, flag)?;
+        set_byte(bytes, place * RECORD_BYTES + at, value)?;
     }
     Ok(())
 }

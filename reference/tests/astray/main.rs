@@ -1,11 +1,14 @@
-//! The tests can fail: wrong planners, each with one mistake that document 01 names, are told from the right one by the same
-//! files and the same comparison that the library passes.
+//! The tests can fail: wrong planners, each with one mistake that document 01 or 02 names or leaves room for, are told from the
+//! right one by the same files and the same comparison that the library passes.
 
 mod mistakes;
 
-use mistakes::{MISTAKES, Mistake, searches};
-use reference::cases;
+use mistakes::limits::walks;
+use mistakes::{Mistake, searches};
+use reference::cases::{self, Kind};
+use reference::compare::{self, Lent};
 use reference::costs;
+use reference::damage::{self, DAMAGES};
 use reference::every;
 use reference::plan;
 use reference::round;
@@ -16,13 +19,21 @@ use reference::written;
 /// As many of the files of tests/small.rs as any mistake needs.
 const FILES: u64 = 900;
 
-/// The service in which the first difference shows, and the file's seed.
+/// The service in which the first difference shows, and the file's seed: on accepted files, or else on damaged ones.
 fn first_difference(found: &Services) -> Option<(&'static str, u64)> {
     let mut tally = Tally::default();
-    (0..FILES).find_map(|seed| {
+    let on_accepted = (0..FILES).find_map(|seed| {
         let case = cases::small(seed);
         let result = round::all(&REFERENCE, found, &case, &mut tally);
         result.err().map(|difference| (difference.service, seed))
+    });
+    on_accepted.or_else(|| {
+        (0..FILES).find_map(|seed| {
+            let damage = DAMAGES[seed as usize % DAMAGES.len()];
+            let (costs, mut random) = damage::small(seed, damage);
+            let result = round::damaged(&REFERENCE, found, &costs, &mut random, &mut tally);
+            result.err().map(|difference| (difference.service, seed))
+        })
     })
 }
 
@@ -32,7 +43,7 @@ fn every_mistake_shows() {
         what,
         shows_in,
         services,
-    } in MISTAKES
+    } in mistakes::all()
     {
         let Some((service, seed)) = first_difference(&services) else {
             panic!("not told from the right planner: {what}");
@@ -46,7 +57,7 @@ fn every_mistake_shows() {
 #[test]
 fn some_line_tells_every_mistake() {
     let lines = written::lines();
-    for Mistake { what, services, .. } in MISTAKES {
+    for Mistake { what, services, .. } in mistakes::all() {
         let small = |line: &&written::Line| !line.text.contains("k = 12");
         let told = |line: &written::Line| written::hold(&services, &line.text).is_err();
         let Some(line) = lines.iter().filter(small).find(|line| told(line)) else {
@@ -59,6 +70,34 @@ fn some_line_tells_every_mistake() {
 #[test]
 fn right_planner_shows_no_difference() {
     assert_eq!(first_difference(&REFERENCE), None);
+}
+
+/// Where the slowest module and its neighbours are at their limits, its response stays what it is whoever else gets a core. So
+/// to end there and to go on with another module come to the same answer, also in the many files here that come to this.
+#[test]
+fn going_on_past_full_modules_changes_no_answer() {
+    let going_on = Services {
+        greedy_plan: walks::goes_on,
+        ..REFERENCE
+    };
+    let mut count = 0;
+    for seed in 0..600 {
+        let kind = [Kind::Limits, Kind::TightLimits][seed as usize % 2];
+        let costs = cases::sized(kind, 6, 16, seed).costs;
+        let chain = costs::read(&costs).expect("an accepted file");
+        let mut some_walk_goes_on = false;
+        for grouping in 0..1 << (chain.tasks - 1) {
+            let lent = Lent::enough(seed);
+            let result = compare::greedy_plan(&REFERENCE, &going_on, &costs, grouping, lent);
+            if let Err(difference) = result {
+                compare::fail(seed, &costs, &difference);
+            }
+            some_walk_goes_on |= walks::does_go_on(&chain, grouping);
+        }
+        count += usize::from(some_walk_goes_on);
+    }
+    println!("some walk goes on past full modules in {count} of 600 files");
+    assert!(count >= 150, "{count} files");
 }
 
 /// Some file shows each wrong search with a greater bottleneck, not only with another plan that is as good.

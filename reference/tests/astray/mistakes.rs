@@ -1,6 +1,8 @@
-//! The wrong planners: document 01's "Where a plan goes astray", then "Before anyone tests", then mistakes in what is lent.
+//! The wrong planners: document 01's "Where a plan goes astray", then "Before anyone tests", then mistakes in what is lent, then
+//! those about core limits.
 
 mod judges;
+pub mod limits;
 pub mod searches;
 
 use reference::answer::{Answer, Refusal};
@@ -52,7 +54,12 @@ const fn in_judge(what: &'static str, judge: fn(&[u8], &[u8]) -> Answer) -> Mist
     }
 }
 
-pub const MISTAKES: [Mistake; 27] = [
+/// All wrong planners.
+pub fn all() -> impl Iterator<Item = Mistake> {
+    MISTAKES.into_iter().chain(limits::MISTAKES)
+}
+
+const MISTAKES: [Mistake; 27] = [
     // where a plan goes astray
     in_best_plan("drops the rest when dividing by r", |costs, plan, work| {
         every::best_plan_by(searches::drops_the_rest, costs, plan, work)
@@ -67,7 +74,7 @@ pub const MISTAKES: [Mistake; 27] = [
         every::best_plan_by(searches::forgets_last_cores, costs, plan, work)
     }),
     in_greedy_plan("stops when it fails to fall", |costs, grouping, plan| {
-        greedy::greedy_plan_by(stops_early, costs, grouping, plan)
+        greedy::greedy_plan_by(greedy::start, stops_early, costs, grouping, plan)
     }),
     in_best_plan("charges the sender only", |costs, plan, work| {
         every::best_plan_by(searches::charges_sender, costs, plan, work)
@@ -86,7 +93,7 @@ pub const MISTAKES: [Mistake; 27] = [
         every::best_plan_by(searches::one_module, costs, plan, work)
     }),
     in_greedy_plan("gives out its first core only", |costs, grouping, plan| {
-        greedy::greedy_plan_by(first_core_only, costs, grouping, plan)
+        greedy::greedy_plan_by(greedy::start, first_core_only, costs, grouping, plan)
     }),
     in_best_plan("9 before searching", |costs, plan, work| {
         every::best_plan_by(|_| None, costs, plan, work)
@@ -98,7 +105,8 @@ pub const MISTAKES: [Mistake; 27] = [
         every::best_plan_by(|chain| Some(whole_board(chain)), costs, plan, work)
     }),
     in_greedy_plan("one fixed plan", |costs, grouping, plan| {
-        greedy::greedy_plan_by(|chain, _| whole_board(chain), costs, grouping, plan)
+        let walk = |chain: &Chain, _| whole_board(chain);
+        greedy::greedy_plan_by(greedy::start, walk, costs, grouping, plan)
     }),
     in_best_plan("plan bytes left blank", |costs, plan, work| {
         let answer = every::best_plan(costs, plan, work);
@@ -149,25 +157,23 @@ pub const MISTAKES: [Mistake; 27] = [
 
 fn stops_early(chain: &Chain, start: Vec<Module>) -> Vec<Module> {
     let mut best = start;
-    while plan::cores(&best) < chain.cores {
-        let next = give(chain, &best);
-        if !plan::bottleneck(chain, &next).is_less(plan::bottleneck(chain, &best)) {
-            break;
-        }
+    while let Some(next) = better_by_a_core(chain, &best) {
         best = next;
     }
     best
 }
 
 fn first_core_only(chain: &Chain, start: Vec<Module>) -> Vec<Module> {
-    if plan::cores(&start) == chain.cores {
-        return start;
+    better_by_a_core(chain, &start).unwrap_or(start)
+}
+
+/// The next assignment if there is one and the bottleneck falls.
+fn better_by_a_core(chain: &Chain, current: &[Module]) -> Option<Vec<Module>> {
+    if plan::cores(current) == chain.cores {
+        return None;
     }
-    let next = give(chain, &start);
-    if plan::bottleneck(chain, &next).is_less(plan::bottleneck(chain, &start)) {
-        return next;
-    }
-    start
+    let bottleneck = plan::bottleneck(chain, current);
+    give(chain, current).filter(|next| plan::bottleneck(chain, next).is_less(bottleneck))
 }
 
 /// All tasks and all cores in one module.

@@ -3,7 +3,7 @@
 use super::judges;
 use reference::costs::Chain;
 use reference::every::{each_plan, search, search_by};
-use reference::plan::{self, Load, Module};
+use reference::plan::{self, Load, Module, Within};
 
 fn greatest(loads: &[Load]) -> Load {
     loads[plan::slowest(loads)]
@@ -31,7 +31,7 @@ pub fn charges_receiver(chain: &Chain) -> Option<Vec<Module>> {
 fn best_that_passes(chain: &Chain, passes: impl Fn(&[Module]) -> bool) -> Option<Vec<Module>> {
     let mut best: Option<Vec<Module>> = None;
     each_plan(chain, &mut |rival| {
-        if !plan::keeps_rules(chain, rival) || !passes(rival) {
+        if !passes(rival) {
             return;
         }
         if best
@@ -44,6 +44,11 @@ fn best_that_passes(chain: &Chain, passes: impl Fn(&[Module]) -> bool) -> Option
     best
 }
 
+/// The best plan by another test of the limits.
+pub fn best_within(within: Within, chain: &Chain) -> Option<Vec<Module>> {
+    best_that_passes(chain, |plan| plan::keeps_rules_by(within, chain, plan))
+}
+
 fn comes_before(chain: &Chain, rival: &[Module], best: &[Module]) -> bool {
     let (load, least) = (
         plan::bottleneck(chain, rival),
@@ -53,21 +58,27 @@ fn comes_before(chain: &Chain, rival: &[Module], best: &[Module]) -> bool {
 }
 
 pub fn one_module(chain: &Chain) -> Option<Vec<Module>> {
-    best_that_passes(chain, |plan| plan.len() == 1)
+    best_that_passes(chain, |plan| {
+        plan.len() == 1 && plan::keeps_rules(chain, plan)
+    })
 }
 
 /// Each module's p is the one with the least time to receive and execute; what it sends is only counted afterwards.
 pub fn fixes_cores_early(chain: &Chain) -> Option<Vec<Module>> {
     best_that_passes(chain, |plan| {
-        (0..plan.len()).all(|i| {
-            let mut so_far = plan[..=i].to_vec();
-            let time = plan::response(chain, &so_far, i);
-            let left = chain.cores - plan::cores(&plan[..i]);
-            (1..=left / plan[i].copies).all(|cores| {
-                so_far[i].cores = cores;
-                !so_far[i].memory_fits(chain) || time <= plan::response(chain, &so_far, i)
-            })
-        })
+        plan::keeps_rules(chain, plan) && (0..plan.len()).all(|i| is_quickest(chain, plan, i))
+    })
+}
+
+/// Whether the i-th module, counted from 0, is at its quickest by what is known when it ends the plan.
+fn is_quickest(chain: &Chain, plan: &[Module], i: usize) -> bool {
+    let mut so_far = plan[..=i].to_vec();
+    let time = plan::response(chain, &so_far, i);
+    let left = chain.cores - plan::cores(&plan[..i]);
+    (1..=left / plan[i].copies).all(|cores| {
+        so_far[i].cores = cores;
+        let may_be = so_far[i].memory_fits(chain) && so_far[i].within_limit(chain);
+        !may_be || time <= plan::response(chain, &so_far, i)
     })
 }
 

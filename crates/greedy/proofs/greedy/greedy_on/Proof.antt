@@ -8,7 +8,7 @@ use Rattle.layout.proofs.Placing.{put-room}
 use Rattle.figures.specs.Model.{coresOf}
 use Rattle.greedy.specs.Greedy.{start}
 use Rattle.greedy.specs.Assignment.{Assigned}
-use Rattle.greedy.proofs.Answering.{on-grouping, on-cores, on-walk, bytes-kept}
+use Rattle.greedy.proofs.Answering.{on-grouping, on-unfit, unfit-cores, unfit-first, on-walk, bytes-kept}
 use Rattle.greedy.proofs.Bytes.{assigned}
 use Rattle.greedy.proofs.Starting.{start-covered, start-single}
 use Rattle.greedy.proofs.greedy.greedy_on.Statement.{statement}
@@ -47,7 +47,7 @@ refuse-requires-2 c κs = search needs
 returns-2 : tie.Need-returns-2
 returns-2 c =
     let s = c .before .before .before .before .before .before .before .before .before .before in
-    let e = on-cores (chain s) (s .args .grouping) (omega arith) (omega arith) in
+    let e = on-unfit (chain s) (s .args .grouping) (omega arith) (unfit-cores (chain s) (s .args .grouping) (omega arith)) in
     (c .refuse2 .ensures ∙ sym e, sym (bytes-kept (chain s) (s .args .grouping) (s .args .plan .now) e (λ z. omega arith)))
 
 abbrev entry : tie.After-put-start → tie.Start
@@ -61,10 +61,28 @@ filled c =
     let g = s .args .grouping in
     assigned (s .args .board .tasks) (start (chain s) g) (s .pre .0) (s .pre .1) (start-covered (chain s) g (s .pre .0)) (start-single (chain s) g) (c .put-start .ensures .1)
 
+slice-aggregate-limit-fault : tie.Need-slice-aggregate-limit-fault
+slice-aggregate-limit-fault c = search needs
+
+limit-fault-requires : tie.Need-limit-fault-requires
+limit-fault-requires c κs = search needs
+
+refuse-requires-3 : tie.Need-refuse-requires-3
+refuse-requires-3 c κs = search needs
+
+returns-3 : tie.Need-returns-3
+returns-3 c =
+    let x = c .before .before in
+    let began = x .before .before .before .before .before in
+    let s = entry began in
+    let e = on-unfit (chain s) (s .args .grouping) (omega arith) (unfit-first (chain s) (s .args .grouping) (x .limit-fault .ensures) (filled began .1) (c .before .if3 .taken)) in
+    (c .refuse3 .ensures ∙ sym e, sym (bytes-kept (chain s) (s .args .grouping) (s .args .plan .now) e (λ z. omega arith)))
+
 walk-requires : tie.Need-walk-requires
 walk-requires c κs =
-    let s = c .before .before .before .before .before .before .before .before .before in
-    let f = filled (c .before .before .before) in
+    let began = c .before .before .before .before .before .before in
+    let s = entry began in
+    let f = filled began in
     (s .pre .0, s .pre .1, f .0, omega (arith, ap coresOf (f .1)))
 
 put-plan-requires : tie.Need-put-plan-requires
@@ -79,12 +97,13 @@ figures-requires c κs = search needs
 same-length : tie.Need-same-length
 same-length c = search needs
 
-returns-3 : tie.Need-returns-3
-returns-3 c =
+returns-4 : tie.Need-returns-4
+returns-4 c =
     let walked = c .before .before .before .before .before .before in
-    let began = walked .before .before .before .before in
+    let x = walked .before .before in
+    let began = x .before .before .before .before .before in
     let s = entry began in
-    on-walk (chain s) (s .args .grouping) (omega arith) (s .args .plan .now) (s .pre .0) (s .pre .1) (omega arith) (began .put-start .ensures .0) (filled began .1)
+    on-walk (chain s) (s .args .grouping) (omega arith) (s .args .plan .now) (s .pre .0) (s .pre .1) (omega arith) (began .put-start .ensures .0) (sym (x .limit-fault .ensures) ∙ walked .before .if3 .left) (filled began .1)
     (walked .walk .ensures) (c .before .before .before .before .put-plan .ensures ∙ put-room _ (s .args .plan .now) (s .pre .3)) (c .figures .ensures)
 
 pub greedy-on-spec : {M : Type 1} → statement M
@@ -99,9 +118,13 @@ greedy-on-spec =
     cast-total
     refuse-requires-2
     returns-2
+    slice-aggregate-limit-fault
+    limit-fault-requires
+    refuse-requires-3
+    returns-3
     walk-requires
     put-plan-requires
     slice-aggregate-figures
     figures-requires
     same-length
-    returns-3)
+    returns-4)

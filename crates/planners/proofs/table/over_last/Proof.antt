@@ -1,11 +1,14 @@
--- `over_last` is `overLast`: the least so far over the last tasks from t + 1 on. Where the memory does not fit it fits at no later
--- last task either, so the least so far is the whole.
+-- `over_last` is `overLast`: the least so far over the last tasks from t + 1 on. Where the module breaks a rule it breaks it at every
+-- later last task too, so the least so far is the whole.
 use Prim.Native.Nat.{_+_, _-_, _≤_}
 use native.Mathlib.Omega.{arith}
 use mathlib.Core.Path.{_≡_, sym, _∙_}
+use mathlib.Core.Bool.{true}
 use borrow.Author.Needs.{needs}
 use borrow.Author.Tests.{not-true, not-false}
 use Rattle.modules.specs.Model.{chainOf}
+use Rattle.modules.specs.Rules.{moduleRules}
+use Rattle.modules.proofs.Laws.{rules-none, rules-longer}
 use Rattle.search.specs.Least.{least}
 use Rattle.search.specs.Plan.{cap}
 use Rattle.search.specs.Weight.{overNext}
@@ -21,7 +24,7 @@ use Rattle.planners.proofs.table.over_last.Tie as tie
 abbrev Inv-loop : tie.InvT-loop
 Inv-loop costs board work n s t q m₀ l₀ m l =
     let x = problem (chainOf costs board) in
-    (t + 1 ≤ l) × (l ≤ board .tasks + 1) × (m ≡ least (cap x) l (overNext x (fitsAt x n) (readTable x work) s t q))
+    (t + 1 ≤ l) × (l ≤ board .tasks + 1) × (moduleRules (chainOf costs board) (t + 1) (l - 1) 1 q ≡ true) × (m ≡ least (cap x) l (overNext x (fitsAt x n) (readTable x work) s t q))
 
 abbrev μ-loop : tie.MeasureT-loop
 μ-loop costs board work n s t q m₀ l₀ m l = board .tasks + 1 - l
@@ -39,27 +42,31 @@ loop-holds : tie.Need-loop-holds Inv-loop μ-loop
 loop-holds c =
     let a = c .before .before .before .args in
     let k = chainOf (a .costs .now) (a .board) in
-    (omega arith, omega arith, sym (chain-cap k) ∙ last-start (problem k) (a .n) (a .work .now) (a .s) (a .t) (a .q))
+    (omega arith, omega arith, rules-none k (a .t + 1) (a .t + 1 - 1) (a .q) (omega arith), sym (chain-cap k) ∙ last-start (problem k) (a .n) (a .work .now) (a .s) (a .t) (a .q))
 
-add-memory-fits : tie.Need-add-memory-fits Inv-loop μ-loop
-add-memory-fits c = omega arith
+add-still-kept : tie.Need-add-still-kept Inv-loop μ-loop
+add-still-kept c = omega arith
 
-memory-fits-requires : tie.Need-memory-fits-requires Inv-loop μ-loop
-memory-fits-requires c κs = search needs
+still-kept-requires : tie.Need-still-kept-requires Inv-loop μ-loop
+still-kept-requires c κs = search needs
 
 returns : tie.Need-returns Inv-loop μ-loop
 returns c =
     let o = c .before .before .before .before in
     let a = o .before .before .before .before .args in
     let k = chainOf (a .costs .now) (a .board) in
-    let unfit = sym (c .before .memory-fits .ensures) ∙ not-true _ (c .if2 .taken) in
-    let e = last-stop k (a .n) (a .s) (a .t) (a .q) (readTable (problem k) (a .work .now)) (o .loop .l) (o .loop .m) (omega arith) unfit (o .loop .inv .2) in
-    (e, least-most k _ _ _ (o .loop .inv .2))
+    let asked = c .before .still-kept .ensures ∙ rules-longer k (a .t + 1) (o .loop .l) (a .q) (o .loop .inv .0) (o .loop .inv .2) in
+    let unfit = sym asked ∙ not-true _ (c .if2 .taken) in
+    let e = last-stop k (a .n) (a .s) (a .t) (a .q) (readTable (problem k) (a .work .now)) (o .loop .l) (o .loop .m) (omega arith) unfit (o .loop .inv .3) in
+    (e, least-most k _ _ _ (o .loop .inv .3))
 
 over-next-requires : tie.Need-over-next-requires Inv-loop μ-loop
 over-next-requires c κs =
-    let b = c .before .before .before .before .before .before .before .before in
-    (b .pre .0, b .pre .1, omega arith, omega arith, sym (c .before .memory-fits .ensures) ∙ not-false _ (c .if2 .left))
+    let o = c .before .before .before .before in
+    let b = o .before .before .before .before in
+    let k = chainOf (b .args .costs .now) (b .args .board) in
+    let asked = c .before .still-kept .ensures ∙ rules-longer k (b .args .t + 1) (o .loop .l) (b .args .q) (o .loop .inv .0) (o .loop .inv .2) in
+    (b .pre .0, b .pre .1, omega arith, omega arith, sym asked ∙ not-false _ (c .if2 .left))
 
 lesser-requires : tie.Need-lesser-requires Inv-loop μ-loop
 lesser-requires c κs = search needs
@@ -71,15 +78,23 @@ loop-less : tie.Need-loop-less Inv-loop μ-loop
 loop-less c = omega arith
 
 loop-again : tie.Need-loop-again Inv-loop μ-loop
-loop-again c = (omega arith, omega arith, least-more _ _ _ _ _ (c .before .before .before .before .before .before .loop .inv .2) (c .lesser .ensures ∙ rw (c .before .over-next .ensures .0)))
+loop-again c =
+    let x = c .before .before .before in
+    let o = x .before .before .before in
+    let a = o .before .before .before .before .args in
+    let k = chainOf (a .costs .now) (a .board) in
+    let e : o .loop .l + 1 - 1 ≡ o .loop .l = omega arith in
+    let asked = x .still-kept .ensures ∙ rules-longer k (a .t + 1) (o .loop .l) (a .q) (o .loop .inv .0) (o .loop .inv .2) in
+    let kept = sym asked ∙ not-false _ (c .before .before .if2 .left) in
+    (omega arith, omega arith, rw e kept, least-more _ _ _ _ _ (o .loop .inv .3) (c .lesser .ensures ∙ rw (c .before .over-next .ensures .0)))
 
 returns-2 : tie.Need-returns-2 Inv-loop μ-loop
 returns-2 c =
     let o = c .before .before in
     let a = o .before .before .before .before .args in
     let k = chainOf (a .costs .now) (a .board) in
-    let e = last-end (problem k) (a .n) (a .work .now) (a .s) (a .t) (a .q) (o .loop .l) (o .loop .m) (omega arith) (o .loop .inv .2) in
-    (e, least-most k _ _ _ (o .loop .inv .2))
+    let e = last-end (problem k) (a .n) (a .work .now) (a .s) (a .t) (a .q) (o .loop .l) (o .loop .m) (omega arith) (o .loop .inv .3) in
+    (e, least-most k _ _ _ (o .loop .inv .3))
 
 pub over-last-spec : {M : Type 1} → statement M
 over-last-spec =
@@ -91,8 +106,8 @@ over-last-spec =
     add-m
     add-l
     loop-holds
-    add-memory-fits
-    memory-fits-requires
+    add-still-kept
+    still-kept-requires
     returns
     over-next-requires
     lesser-requires

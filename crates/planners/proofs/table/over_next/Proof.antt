@@ -40,17 +40,17 @@ body-requires c κs = search needs
 add-base : tie.Need-add-base Inv-loop μ-loop
 add-base c = omega arith
 
-add-rules-met : tie.Need-add-rules-met Inv-loop μ-loop
-add-rules-met c = omega arith
+add-copies-allowed : tie.Need-add-copies-allowed Inv-loop μ-loop
+add-copies-allowed c = omega arith
 
-rules-met-requires : tie.Need-rules-met-requires Inv-loop μ-loop
-rules-met-requires c κs = search needs
+copies-allowed-requires : tie.Need-copies-allowed-requires Inv-loop μ-loop
+copies-allowed-requires c κs = search needs
 
 over-copies-requires : tie.Need-over-copies-requires Inv-loop μ-loop
 over-copies-requires c κs =
     let b = c .before .before .before .before .before .before .before in
     let z = c .before .before .before .before .transfer in
-    (b .pre .0, b .pre .1, loaded (b .pre .2) (b .pre .3) (b .pre .4) (z .ensures) (omega arith) (c .before .before .before .body .ensures) (c .before .before .rules-met .ensures), omega arith)
+    (b .pre .0, b .pre .1, loaded (b .pre .2) (b .pre .3) (b .pre .4) (z .ensures) (omega arith) (c .before .before .before .body .ensures) (c .before .before .copies-allowed .ensures), omega arith)
 
 returns : tie.Need-returns Inv-loop μ-loop
 returns c =
@@ -80,7 +80,7 @@ over-copies-requires-2 : tie.Need-over-copies-requires-2 Inv-loop μ-loop
 over-copies-requires-2 c κs =
     let d = c .before .before .before .before .before .before in
     let b = d .before .before .before .before .before in
-    (b .pre .0, b .pre .1, loaded (b .pre .2) (b .pre .3) (b .pre .4) (d .before .before .transfer .ensures) (omega arith) (d .before .body .ensures) (d .rules-met .ensures), omega arith)
+    (b .pre .0, b .pre .1, loaded (b .pre .2) (b .pre .3) (b .pre .4) (d .before .before .transfer .ensures) (omega arith) (d .before .body .ensures) (d .copies-allowed .ensures), omega arith)
 
 lesser-requires : tie.Need-lesser-requires Inv-loop μ-loop
 lesser-requires c κs = search needs
@@ -112,8 +112,8 @@ over-next-spec =
     add-body
     body-requires
     add-base
-    add-rules-met
-    rules-met-requires
+    add-copies-allowed
+    copies-allowed-requires
     over-copies-requires
     returns
     add-end

@@ -27,38 +27,37 @@ returns-2 c =
       ne-eqb _ _ (c .if2 .taken),
     )
 
-byte-at-requires-3 : tie.Need-byte-at-requires-3
-byte-at-requires-3 c κs = search needs
-
 returns-3 : tie.Need-returns-3
 unfolding keyMeets
 returns-3 c =
-    let second = c .before .before .before in
+    let second = c .before in
     let first = second .before .before .before in
+    let two = sym (first .if1 .left) ∙ c .if3 .taken in
     simp (
       ← (first .before .before .byte-at .ensures .0),
       eq-eqb _ _ (first .if1 .left),
       ← (second .before .before .byte-at2 .ensures .0),
       eq-eqb _ _ (second .if2 .left),
-      ← (c .before .before .byte-at3 .ensures .0),
-      ne-eqb _ _ (c .if3 .taken),
+      eq-eqb _ _ two,
     )
+
+byte-at-requires-3 : tie.Need-byte-at-requires-3
+byte-at-requires-3 c κs = search needs
 
 returns-4 : tie.Need-returns-4
 unfolding keyMeets
 returns-4 c =
-    let third = c .before in
-    let second = third .before .before .before in
+    let third = c .before .before .before in
+    let second = third .before in
     let first = second .before .before .before in
-    let two = sym (first .if1 .left) ∙ c .if4 .taken in
     simp (
       ← (first .before .before .byte-at .ensures .0),
       eq-eqb _ _ (first .if1 .left),
       ← (second .before .before .byte-at2 .ensures .0),
       eq-eqb _ _ (second .if2 .left),
-      ← (third .before .before .byte-at3 .ensures .0),
-      eq-eqb _ _ (third .if3 .left),
-      eq-eqb _ _ two,
+      ne-eqb _ _ (λ e. third .if3 .left (first .if1 .left ∙ e)),
+      ← (c .before .before .byte-at3 .ensures .0),
+      ne-eqb _ _ (c .if4 .taken),
     )
 
 byte-at-requires-4 : tie.Need-byte-at-requires-4
@@ -67,17 +66,18 @@ byte-at-requires-4 c κs = search needs
 returns-5 : tie.Need-returns-5
 unfolding keyMeets
 returns-5 c =
-    let third = c .before .before .before in
-    let second = third .before .before .before in
+    let fourth = c .before .before in
+    let third = fourth .before .before .before in
+    let second = third .before in
     let first = second .before .before .before in
     simp (
       ← (first .before .before .byte-at .ensures .0),
       eq-eqb _ _ (first .if1 .left),
       ← (second .before .before .byte-at2 .ensures .0),
       eq-eqb _ _ (second .if2 .left),
-      ← (third .before .before .byte-at3 .ensures .0),
-      eq-eqb _ _ (third .if3 .left),
-      ne-eqb _ _ (λ e. c .before .before .if4 .left (first .if1 .left ∙ e)),
+      ne-eqb _ _ (λ e. third .if3 .left (first .if1 .left ∙ e)),
+      ← (fourth .before .before .byte-at3 .ensures .0),
+      eq-eqb _ _ (fourth .if4 .left),
       ← (c .before .byte-at4 .ensures .0),
     )
 
@@ -89,8 +89,8 @@ key-meets-spec =
     returns
     byte-at-requires-2
     returns-2
-    byte-at-requires-3
     returns-3
+    byte-at-requires-3
     returns-4
     byte-at-requires-4
     returns-5)

@@ -28,12 +28,33 @@ returns-3 : tie.Need-returns-3
 unfolding valueMeets
 returns-3 c =
     simp (
-      ← (c .before .before .before .before .value-at .ensures),
-      le-leb _ _ (c .before .before .before .if1 .left),
-      eq-eqb _ _ (c .before .if2 .left),
-      ← (c .byte-at .ensures .0),
+      ← (c .before .before .before .before .before .value-at .ensures),
+      le-leb _ _ (c .before .before .before .before .if1 .left),
+      eq-eqb _ _ (c .before .before .if2 .left),
+      ← (c .before .byte-at .ensures .0),
+      lt-leb _ _ (c .if3 .taken),
+    )
+
+byte-at-requires-2 : tie.Need-byte-at-requires-2
+byte-at-requires-2 c κs = search needs
+
+wide-requires : tie.Need-wide-requires
+wide-requires c κs = search needs
+
+returns-4 : tie.Need-returns-4
+unfolding valueMeets
+returns-4 c =
+    let third = c .before .before in
+    simp (
+      ← (third .before .before .before .before .before .value-at .ensures),
+      le-leb _ _ (third .before .before .before .before .if1 .left),
+      eq-eqb _ _ (third .before .before .if2 .left),
+      ← (third .before .byte-at .ensures .0),
+      le-leb _ _ (third .if3 .left),
+      ← (c .before .byte-at2 .ensures .0),
+      c .wide .ensures .0,
     )
 
 pub value-meets-spec : {M : Type 1} → statement M
 value-meets-spec =
-    tie.close (tie.spec value-at-requires returns returns-2 byte-at-requires returns-3)
+    tie.close (tie.spec value-at-requires returns returns-2 byte-at-requires returns-3 byte-at-requires-2 wide-requires returns-4)
