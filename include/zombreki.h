@@ -31,7 +31,7 @@ extern "C" {
 #define ZOMBREKI_WORK_WORDS 16384
 
 /* The number of a refusal (0 for none) and its place, or the figures of a plan. A refusal has zero figures. The costs are
- * refused with 1 to 6, what is lent with 7, 8 and 10, a judged plan with 12 to 16 (16 before 15: a copy of a module has more
+ * refused with 1 to 6, the call with 7, 8 and 10, a judged plan with 12 to 16 (16 before 15: a copy of a module has more
  * cores than byte b of one of its tasks' records allows), and where there is no such plan the planners refuse with 9 and 11. */
 struct zombreki_answer {
     uint32_t refusal;  /* 0, or the number of the refusal */

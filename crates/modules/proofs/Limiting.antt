@@ -152,13 +152,14 @@ module _ (c : Chain) (last p : ℕ) where
       (λ g. most-allows (c .limit t) p (within-each c t last p .0 g t (omega arith) h))
       (λ g. true-not-false x (d ∙ g) e)
 
-  -- with its last task a module is within its limit exactly if it was without it and that task allows p
+  -- with its last task a module is within its limit if it was without it and that task allows p
   pub within-more : (first : ℕ) → withinLimit c first (last - 1) p ≡ true → allows (c .limit last) p ≡ true → withinLimit c first last p ≡ true
   within-more first e d = within-each c first last p .1 (λ t a b s. ⊎-elim
       (λ q. rw q (allows-most (c .limit last) p d (rw q at s)))
       (λ l. within-each c first (last - 1) p .0 e t a (omega arith) s)
       (eq-or-lt-of-le b))
 
+  -- and only if that task does; that it was without it is `limit-drop`
   pub within-task : (first : ℕ) → first ≤ last → withinLimit c first last p ≡ true → allows (c .limit last) p ≡ true
   within-task first h e = most-allows (c .limit last) p (within-each c first last p .0 e last h (omega arith))
 

@@ -59,8 +59,8 @@ flags : map (replicableOf smallDock (board 4 100)) few ≡ false ∷ true ∷ tr
 unfolding within replicableOf smallDock
 flags = refl
 
--- M-100: task 1 at most 3 cores; what is no task has no limit, whatever its bytes say
-limits : map (limitOf (set smallDock 11 3) (board 4 100)) few ≡ 0 ∷ 3 ∷ 0 ∷ 0 ∷ 0 ∷ 0 ∷ []
+-- M-100: task 1 at most 3 cores; what is no task has no limit, though b of the board's record is 2 and of the one after the tasks' 7
+limits : map (limitOf (set (set smallDock 11 3) 27 7) (board 4 100)) few ≡ 0 ∷ 3 ∷ 0 ∷ 0 ∷ 0 ∷ 0 ∷ []
 unfolding within limitOf smallDock
 limits = refl
 
