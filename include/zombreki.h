@@ -1,4 +1,4 @@
-/* Core plans that are proved to be the best: the three services for C callers. Link with libzombreki.a.
+/* Core plans that are proved to be the best: the services for C callers. Link with libzombreki.a.
  *
  * Every answer, and what becomes of the lent bytes and words, is proved for every content and every length of what is lent
  * (crates/zombreki). No proof covers a caller that breaks one of these:
@@ -9,9 +9,10 @@
  *  - an empty slice has count 0; its pointer is not looked at and may be any.
  *
  * What a target without an operating system has to offer, measured on x86-64:
- *  - some 15 KB for code; the library has no data and no bss;
+ *  - some 18 KB for code; the library has no data and no bss;
  *  - `memset`, the only symbol that it needs from outside;
- *  - beside what is lent, stack for a call: some 600 bytes to judge, 1,500 for the greedy plan, 1,000 for the best;
+ *  - beside what is lent, stack for a call: some 600 bytes to judge, 1,500 for the greedy plan, 1,000 for the best, 300 to fill in
+ *    costs;
  *  - SSE registers, and the red zone of the System V ABI: interrupts keep off the 128 bytes below the stack pointer.
  * Nothing is kept between calls, so calls from several threads, each on its own buffers, are safe. Held by tests/footprint
  * (the first two; code and constants to 24 KiB), tests/stack.c (a call to 2 KiB of stack) and tests/threads.c (two threads).
@@ -56,6 +57,25 @@ struct zombreki_answer zombreki_greedy_plan(const uint8_t *costs, size_t costs_l
  * came before the search (any but 9). */
 struct zombreki_answer zombreki_best_plan(const uint8_t *costs, size_t costs_len, uint8_t *plan, size_t plan_len,
                                           uint32_t *work, size_t work_len);
+
+/* What a service that fills an output answers: how many bytes it has filled in, or a refusal's number and place. */
+struct zombreki_filled {
+    uint32_t refusal; /* 0, or the number of the refusal */
+    uint32_t place;   /* the record at fault, counted from 1; 0 where none is named */
+    uint32_t count;   /* the bytes filled in; 0 in a refusal */
+};
+
+/* Fills in all cost records of a board from laws for its costs. `head` is the first part of a cost file, the records of kinds 1 and 2.
+ * `laws` has one record of 24 bytes for each cost, 3k - 2 in all: kind 3 for tasks 1 to k, then kind 4 and then kind 5 for tasks 1 to
+ * k - 1. Each is kind, task, form, a zero, and C1 to C5 of 32 bits, lowest byte first, unused ones zero:
+ *   form 0, any kind       C1
+ *   form 1, kinds 3 and 4  C1 + C2/p + C3*p
+ *   form 2, kind 5         C1 + C2/s + C3/q + C4*s + C5*q for s sending and q receiving cores
+ * Each quotient is rounded up by itself. `out` takes 8 * (1 + k + k*P + (k - 1)*P + (k - 1)*P*P) bytes, 96,104 at most. Refusals, in this
+ * order: 1 to 6 on the first part (4: not 1 + k records), 17 (laws of a wrong length, field or form), 18 (a value above 1,000,000), 19
+ * (`out` is too short). A refusal leaves `out` as it came; bytes after those filled in are never written. */
+struct zombreki_filled zombreki_fill_costs(const uint8_t *head, size_t head_len, const uint8_t *laws, size_t laws_len,
+                                           uint8_t *out, size_t out_len);
 
 #ifdef __cplusplus
 }

@@ -1,5 +1,5 @@
-/* Calls the three services from C on document 01's small dock, given as a file, and checks answers, lent bytes and words, and the
- * layout of the answer. Prints what differs and ends with 1, or prints `calls: ok`. */
+/* Calls the services from C on document 01's small dock, given as a file, and on laws for its costs, and checks answers, lent
+ * bytes and words, and the layout of the answers. Prints what differs and ends with 1, or prints `calls: ok`. */
 #include <stddef.h>
 #include <stdio.h>
 #include <string.h>
@@ -15,6 +15,12 @@ _Static_assert(offsetof(struct zombreki_answer, cores) == 12, "then the cores");
 _Static_assert(offsetof(struct zombreki_answer, slowest) == 16, "then the slowest module");
 _Static_assert(offsetof(struct zombreki_answer, response) == 20, "then its response");
 _Static_assert(offsetof(struct zombreki_answer, copies) == 24, "then its copies");
+
+_Static_assert(sizeof(struct zombreki_filled) == 12, "three 32-bit numbers");
+_Static_assert(_Alignof(struct zombreki_filled) == 4, "aligned as one of them");
+_Static_assert(offsetof(struct zombreki_filled, refusal) == 0, "refusal first");
+_Static_assert(offsetof(struct zombreki_filled, place) == 4, "then the place");
+_Static_assert(offsetof(struct zombreki_filled, count) == 8, "then the bytes filled in");
 
 static int failures;
 
@@ -128,6 +134,96 @@ static void walks_to_limits(const uint8_t *costs, size_t length)
     expect("greedy, limit 3: plan", holds(plan, (uint8_t[]){1, 2, 1, 3}, 4));
 }
 
+/* Document 02, M-101. The small dock's execution of task 1 is 1 + 11 / p. That of task 2 follows no law: 20 / p is 7 and 5 at
+ * three and four cores, where the dock has 8 and 6. Its transfers are constants. */
+static const uint8_t dock_laws[4][24] = {
+    {3, 1, 1, 0, 1, 0, 0, 0, 11},
+    {3, 2, 1, 0, 0, 0, 0, 0, 20},
+    {4, 1, 0, 0, 1},
+    {5, 1, 0, 0, 2},
+};
+
+static int fills(struct zombreki_filled f, uint32_t refusal, uint32_t place, uint32_t count)
+{
+    return f.refusal == refusal && f.place == place && f.count == count;
+}
+
+/* What is filled in, byte by byte, and 255 behind it; then the best plan on it. The value of task 2's execution at three cores is
+ * the file's byte 76, and at four cores 84. */
+static void fills_costs(const uint8_t *costs)
+{
+    static uint32_t work[ZOMBREKI_WORK_WORDS];
+    uint8_t head[24], laws[4][24], out[252], due[252], plan[52];
+    memcpy(head, costs, sizeof head);
+    memcpy(laws, dock_laws, sizeof laws);
+    memset(out, 255, sizeof out);
+    memset(due, 255, sizeof due);
+    memcpy(due, costs, 248);
+    due[76] = 7;
+    due[84] = 5;
+    expect("fill", fills(zombreki_fill_costs(head, sizeof head, laws[0], sizeof laws, out, sizeof out), 0, 0, 248));
+    expect("fill: records", memcmp(out, due, sizeof due) == 0);
+    expect("fill: first part as lent", memcmp(head, costs, sizeof head) == 0);
+    expect("fill: laws as lent", memcmp(laws, dock_laws, sizeof laws) == 0);
+    memset(plan, 255, sizeof plan);
+    expect("best, filled in", answers(zombreki_best_plan(out, 248, plan, sizeof plan, work, ZOMBREKI_WORK_WORDS),
+                                      (uint32_t[]){0, 0, 1, 4, 1, 18, 2}));
+    expect("best, filled in: plan", holds(plan, (uint8_t[]){1, 2, 2, 2}, 4));
+}
+
+/* Five terms on two cores: 1 + 3 / s + 5 / q + 2 s + 7 q. The other laws are constants of 0. */
+static void fills_five_terms(const uint8_t *costs)
+{
+    uint8_t laws[4][24] = {{3, 1}, {3, 2}, {4, 1}, {5, 1, 2, 0, 1, 0, 0, 0, 3, 0, 0, 0, 5, 0, 0, 0, 2, 0, 0, 0, 7}};
+    uint8_t external[4][8] = {{5, 1, 1, 1, 18}, {5, 1, 1, 2, 23}, {5, 1, 2, 1, 19}, {5, 1, 2, 2, 24}};
+    uint8_t head[24], out[104] = {0};
+    memcpy(head, costs, sizeof head);
+    head[2] = 2;
+    expect("fill, five terms", fills(zombreki_fill_costs(head, 24, laws[0], sizeof laws, out, sizeof out), 0, 0, 104));
+    expect("fill, five terms: records", memcmp(out + 72, external, sizeof external) == 0);
+}
+
+/* What is lent to fill costs, but for the output itself. */
+struct lent {
+    const uint8_t *head;
+    size_t head_len;
+    const uint8_t *laws;
+    size_t laws_len, out_len;
+};
+
+/* The refusal has count 0, and the output stays as lent. */
+static void refuses(const char *what, struct lent lent, uint32_t refusal, uint32_t place)
+{
+    uint8_t out[252], held[252];
+    memset(out, 255, sizeof out);
+    memset(held, 255, sizeof held);
+    expect(what, fills(zombreki_fill_costs(lent.head, lent.head_len, lent.laws, lent.laws_len, out, lent.out_len), refusal,
+                       place, 0));
+    expect(what, memcmp(out, held, sizeof out) == 0);
+}
+
+static void refuses_laws(const uint8_t *costs)
+{
+    const uint8_t *right = dock_laws[0];
+    uint8_t head[24], laws[4][24];
+    memcpy(head, costs, sizeof head);
+    memcpy(laws, dock_laws, sizeof laws);
+    refuses("fill, no first part", (struct lent){NULL, 0, right, 96, 248}, 1, 0);
+    refuses("fill, whole file as first part", (struct lent){costs, 248, right, 96, 248}, 4, 0);
+    refuses("fill, no laws", (struct lent){costs, 24, NULL, 0, 248}, 17, 0);
+    refuses("fill, laws a byte short", (struct lent){costs, 24, right, 95, 248}, 17, 0);
+    refuses("fill, output a byte short", (struct lent){costs, 24, right, 96, 247}, 19, 0);
+    head[19] = 33;
+    refuses("fill, limit above 32", (struct lent){head, 24, right, 96, 248}, 6, 3);
+    laws[3][2] = 1;
+    refuses("fill, three terms outside", (struct lent){costs, 24, laws[0], 96, 248}, 17, 0);
+    laws[3][2] = 0;
+    memcpy(&laws[3][4], (uint8_t[]){0x41, 0x42, 0x0f, 0}, 4); /* 1,000,001 */
+    refuses("fill, a value above", (struct lent){costs, 24, laws[0], 96, 247}, 18, 0);
+    expect("fill, no output", fills(zombreki_fill_costs(costs, 24, right, 96, NULL, 0), 19, 0, 0));
+    expect("fill, none", fills(zombreki_fill_costs(NULL, 0, NULL, 0, NULL, 0), 1, 0, 0));
+}
+
 int main(int argc, char **argv)
 {
     uint8_t costs[249];
@@ -143,6 +239,9 @@ int main(int argc, char **argv)
     plans_best(costs, length);
     keeps_limits(costs, length);
     walks_to_limits(costs, length);
+    fills_costs(costs);
+    fills_five_terms(costs);
+    refuses_laws(costs);
     if (failures)
         return 1;
     puts("calls: ok");

@@ -2,8 +2,9 @@
  * byte that is not as painted says how deep it went. What a function that does nothing takes on such a stack is subtracted, so
  * what counts is the call with its arguments and its answer, and all that is called from there.
  *
- * `stack FILE..` plans and judges each of these files of cost records, which have plans and two tasks at least. Prints a line
- * for each service with the most that it took; prints what is wrong and ends with 1. Stacks grow downwards here. */
+ * `stack FILE..` plans and judges each of these files of cost records, which have plans and two tasks at least, and fills in as
+ * many records from its first part and laws. Prints a line for each service with the most that it took; prints what is wrong
+ * and ends with 1. Stacks grow downwards here. */
 #define _XOPEN_SOURCE 600
 #include <stdio.h>
 #include <string.h>
@@ -21,6 +22,9 @@ static uint16_t grouping;
 static uint8_t plan[ZOMBREKI_PLAN_BYTES];
 static uint32_t work[ZOMBREKI_WORK_WORDS];
 static struct zombreki_answer answer;
+static struct laws laws;
+static uint8_t out[LARGEST];
+static struct zombreki_filled filled;
 static int failures;
 
 static void do_nothing(void)
@@ -42,6 +46,11 @@ static void call_best(void)
     answer = zombreki_best_plan(costs.bytes, costs.length, plan, sizeof plan, work, ZOMBREKI_WORK_WORDS);
 }
 
+static void call_fill(void)
+{
+    filled = zombreki_fill_costs(costs.bytes, first_part(&costs), laws.bytes, laws.length, out, sizeof out);
+}
+
 /* A service, and the most bytes that a call of it took. */
 struct service {
     const char *name;
@@ -51,6 +60,7 @@ struct service {
 static struct service judge = {"zombreki_judge", call_judge, 0};
 static struct service greedy = {"zombreki_greedy_plan", call_greedy, 0};
 static struct service best = {"zombreki_best_plan", call_best, 0};
+static struct service fill = {"zombreki_fill_costs", call_fill, 0};
 
 /* The bytes from the top of a stack in this paint down to the lowest that the call changed; all of them if it did not run. */
 static size_t depth_in(uint8_t paint, void (*call)(void))
@@ -109,6 +119,14 @@ static void plans(struct service *service)
     expect(service, "Judge gives other figures", memcmp(&answer, &planned, sizeof answer) == 0);
 }
 
+/* As many bytes are filled in as the file has, whose first part says the size. */
+static void fills(void)
+{
+    make_laws(&costs, &laws);
+    measure(&fill);
+    expect(&fill, "not filled in", filled.refusal == 0 && filled.count == costs.length);
+}
+
 static void bounded(const struct service *service)
 {
     printf("stack: %s takes %zu bytes\n", service->name, service->most);
@@ -129,9 +147,11 @@ int main(int argc, char **argv)
         /* all tasks in one module, then task 1 in one of its own */
         for (grouping = 0; grouping < 2; grouping++)
             plans(&greedy);
+        fills();
     }
     bounded(&judge);
     bounded(&greedy);
     bounded(&best);
+    bounded(&fill);
     return failures != 0;
 }

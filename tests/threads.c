@@ -1,6 +1,7 @@
-/* Nothing is kept between calls. `threads FILE FILE` asks the three services about each of two files of cost records that
- * have plans, then about the first again, then about both at once, a thread to a file with buffers of its own: answers, plan
- * bytes and work area are always those of the first time. Prints what is wrong and ends with 1, or prints `threads: ok`. */
+/* Nothing is kept between calls. `threads FILE FILE` asks the services about each of two files of cost records that have
+ * plans, and to fill in as many records from its first part and laws; then about the first again, then about both at once, a
+ * thread to a file with buffers of its own: answers, plan bytes, work area and records filled in are always those of the first
+ * time. Prints what is wrong and ends with 1, or prints `threads: ok`. */
 #include <pthread.h>
 #include <stdatomic.h>
 #include <string.h>
@@ -14,12 +15,14 @@
 /* All that the services give for a file. */
 struct given {
     struct zombreki_answer greedy, best, judge;
-    uint8_t greedy_plan[ZOMBREKI_PLAN_BYTES], best_plan[ZOMBREKI_PLAN_BYTES];
+    struct zombreki_filled filled;
+    uint8_t greedy_plan[ZOMBREKI_PLAN_BYTES], best_plan[ZOMBREKI_PLAN_BYTES], out[LARGEST];
     uint32_t work[ZOMBREKI_WORK_WORDS];
 };
 
 static struct asked {
     struct costs costs;
+    struct laws laws;
     struct given first, now;
     int differs;
 } files[2];
@@ -36,6 +39,7 @@ static void ask(struct asked *file)
     now->best = zombreki_best_plan(costs->bytes, costs->length, now->best_plan, ZOMBREKI_PLAN_BYTES, now->work,
                                    ZOMBREKI_WORK_WORDS);
     now->judge = zombreki_judge(costs->bytes, costs->length, now->greedy_plan, ZOMBREKI_PLAN_BYTES);
+    now->filled = zombreki_fill_costs(costs->bytes, first_part(costs), file->laws.bytes, file->laws.length, now->out, LARGEST);
     file->differs |= memcmp(&file->first, now, sizeof *now) != 0;
 }
 
@@ -62,10 +66,12 @@ int main(int argc, char **argv)
     for (int i = 0; i < 2; i++) {
         if (argc != 3 || !read_costs(argv[i + 1], &files[i].costs))
             return ended("usage: threads FILE FILE, files of cost records", 1);
+        make_laws(&files[i].costs, &files[i].laws);
         ask(&files[i]);
         files[i].first = files[i].now;
         files[i].differs = 0;
-        if (files[i].first.greedy.refusal || files[i].first.best.refusal || files[i].first.judge.refusal)
+        if (files[i].first.greedy.refusal || files[i].first.best.refusal || files[i].first.judge.refusal ||
+            files[i].first.filled.refusal)
             return ended("a service refused a file", 1);
     }
     ask(&files[0]);

@@ -1,6 +1,6 @@
-//! What every service answers: the figures of a plan, or a refusal's number and place.
+//! What a service answers: the figures of a plan or the bytes that it filled in, or a refusal's number and place.
 
-/// The answer of the C interface: seven numbers. A refusal has zero figures, figures have refusal 0 and place 0.
+/// The answer of the C interface for a plan: seven numbers. A refusal has zero figures, figures have refusal 0 and place 0.
 #[repr(C)]
 #[derive(Clone, Copy, Debug, Default, PartialEq, Eq)]
 pub struct Answer {
@@ -13,7 +13,16 @@ pub struct Answer {
     pub copies: u32,
 }
 
-/// A refusal by its number in document 01; the place is 0 unless the document names one.
+/// The answer of a service that fills an output: how many bytes it filled in. A refusal has count 0.
+#[repr(C)]
+#[derive(Clone, Copy, Debug, Default, PartialEq, Eq)]
+pub struct Filled {
+    pub refusal: u32,
+    pub place: u32,
+    pub count: u32,
+}
+
+/// A refusal by its number in document 01 or 02; the place is 0 unless a document names one.
 #[derive(Clone, Copy, Debug, PartialEq, Eq)]
 pub struct Refusal {
     pub number: u32,
@@ -37,6 +46,16 @@ impl From<Refusal> for Answer {
             refusal: refusal.number,
             place: refusal.place,
             ..Answer::default()
+        }
+    }
+}
+
+impl From<Refusal> for Filled {
+    fn from(refusal: Refusal) -> Filled {
+        Filled {
+            refusal: refusal.number,
+            place: refusal.place,
+            count: 0,
         }
     }
 }

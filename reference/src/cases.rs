@@ -1,5 +1,6 @@
 //! Cost files from seeds, in kinds that each press on one part of the model.
 
+pub mod laws;
 mod times;
 
 use crate::costs::{self, Chain, MOST_CORES};
@@ -185,6 +186,7 @@ pub fn worked_example() -> Chain {
         executions: vec![12, 7, 5, 4, 20, 10, 8, 6],
         internals: vec![1; 4],
         externals: vec![2; 16],
+        laws: None,
     }
 }
 
@@ -201,5 +203,6 @@ pub fn constant(tasks: usize, cores: usize, time: u32) -> Chain {
         executions: vec![time; tasks * cores],
         internals: vec![time; pairs * cores],
         externals: vec![time; pairs * cores * cores],
+        laws: None,
     }
 }

@@ -5,11 +5,27 @@ use std::fmt::Debug;
 use std::fs;
 use std::thread;
 
-use crate::answer::Answer;
+use crate::answer::{Answer, Filled};
 use crate::every::WORK_WORDS;
 use crate::plan::PLAN_BYTES;
 use crate::random::Random;
-use crate::services::Services;
+use crate::services::{Planner, Services};
+
+/// Two planners on the same costs; what the expected one answers and fills in is due from the other.
+pub struct Both<'a> {
+    pub expected: Box<dyn Planner + 'a>,
+    pub found: Box<dyn Planner + 'a>,
+}
+
+impl<'a> Both<'a> {
+    /// Two providers on these bytes.
+    pub fn on(expected: &Services, found: &Services, costs: &'a [u8]) -> Both<'a> {
+        Both {
+            expected: Box::new(expected.on(costs)),
+            found: Box::new(found.on(costs)),
+        }
+    }
+}
 
 /// In which service the two differ, and how.
 #[derive(Debug)]
@@ -29,6 +45,7 @@ pub struct Lent {
 
 const MARGIN: usize = 16;
 const PLAN_NAME: &str = "plan bytes (those lent begin at 16)";
+const OUT_NAME: &str = "output (the lent bytes begin at 16)";
 const WORK_NAME: &str = "work area (the lent words begin at 16)";
 
 impl Lent {
@@ -42,9 +59,7 @@ impl Lent {
     }
 
     fn dirty_plan(&self) -> Vec<u8> {
-        let mut random = Random::new(self.seed);
-        let length = self.plan + 2 * MARGIN;
-        (0..length).map(|_| random.byte()).collect()
+        dirty_bytes(self.plan, self.seed)
     }
 
     fn dirty_work(&self) -> Vec<u32> {
@@ -54,12 +69,24 @@ impl Lent {
     }
 
     fn plan_in<'a>(&self, bytes: &'a mut [u8]) -> &'a mut [u8] {
-        &mut bytes[MARGIN..MARGIN + self.plan]
+        lent_in(self.plan, bytes)
     }
 
     fn work_in<'a>(&self, words: &'a mut [u32]) -> &'a mut [u32] {
         &mut words[MARGIN..MARGIN + self.work]
     }
+}
+
+/// So many bytes and the margins around them.
+fn dirty_bytes(length: usize, seed: u64) -> Vec<u8> {
+    let mut random = Random::new(seed);
+    let length = length + 2 * MARGIN;
+    (0..length).map(|_| random.byte()).collect()
+}
+
+/// The bytes between the margins.
+fn lent_in(length: usize, bytes: &mut [u8]) -> &mut [u8] {
+    &mut bytes[MARGIN..MARGIN + length]
 }
 
 /// The first place where the two differ, with what `name` says of it.
@@ -78,14 +105,9 @@ fn expect_same<T: PartialEq + Debug>(
 }
 
 /// Judge, with whatever plan bytes; the answer of both.
-pub fn judge(
-    expected: &Services,
-    found: &Services,
-    costs: &[u8],
-    plan: &[u8],
-) -> Result<Answer, Difference> {
-    let answer = (expected.judge)(costs, plan);
-    let found_answer = (found.judge)(costs, plan);
+pub fn judge(both: &Both, plan: &[u8]) -> Result<Answer, Difference> {
+    let answer = both.expected.judge(plan);
+    let found_answer = both.found.judge(plan);
     let name = || format!("answer on the plan {plan:?}");
     expect_same("judge", &[answer], &[found_answer], name)?;
     Ok(answer)
@@ -93,16 +115,16 @@ pub fn judge(
 
 /// The greedy plan; the answer and the plan bytes of both.
 pub fn greedy_plan(
-    expected: &Services,
-    found: &Services,
-    costs: &[u8],
+    both: &Both,
     grouping: u16,
     lent: Lent,
 ) -> Result<(Answer, Vec<u8>), Difference> {
     let mut plan = lent.dirty_plan();
     let mut found_plan = plan.clone();
-    let answer = (expected.greedy_plan)(costs, grouping, lent.plan_in(&mut plan));
-    let found_answer = (found.greedy_plan)(costs, grouping, lent.plan_in(&mut found_plan));
+    let answer = both.expected.greedy_plan(grouping, lent.plan_in(&mut plan));
+    let found_answer = both
+        .found
+        .greedy_plan(grouping, lent.plan_in(&mut found_plan));
     let name = |what: &str| format!("{what} with grouping {grouping}");
     expect_same("greedy plan", &[answer], &[found_answer], || name("answer"))?;
     expect_same("greedy plan", &plan, &found_plan, || name(PLAN_NAME))?;
@@ -110,25 +132,42 @@ pub fn greedy_plan(
 }
 
 /// The best plan; the answer and the plan bytes of both.
-pub fn best_plan(
-    expected: &Services,
-    found: &Services,
-    costs: &[u8],
-    lent: Lent,
-) -> Result<(Answer, Vec<u8>), Difference> {
+pub fn best_plan(both: &Both, lent: Lent) -> Result<(Answer, Vec<u8>), Difference> {
     let (mut plan, mut work) = (lent.dirty_plan(), lent.dirty_work());
     let (mut found_plan, mut found_work) = (plan.clone(), work.clone());
-    let answer = (expected.best_plan)(costs, lent.plan_in(&mut plan), lent.work_in(&mut work));
-    let found_answer = (found.best_plan)(
-        costs,
-        lent.plan_in(&mut found_plan),
-        lent.work_in(&mut found_work),
-    );
+    let answer = both
+        .expected
+        .best_plan(lent.plan_in(&mut plan), lent.work_in(&mut work));
+    let found_answer = both
+        .found
+        .best_plan(lent.plan_in(&mut found_plan), lent.work_in(&mut found_work));
     let name = |what: &str| what.to_string();
     expect_same("best plan", &[answer], &[found_answer], || name("answer"))?;
     expect_same("best plan", &plan, &found_plan, || name(PLAN_NAME))?;
     expect_same("best plan", &work, &found_work, || name(WORK_NAME))?;
     Ok((answer, lent.plan_in(&mut plan).to_vec()))
+}
+
+/// The costs filled in from laws, into so many bytes; the answer and the output of both. What is lent for reading stays as it is.
+pub fn fill_costs(
+    expected: &Services,
+    found: &Services,
+    (head, laws): (&[u8], &[u8]),
+    room: usize,
+    seed: u64,
+) -> Result<(Filled, Vec<u8>), Difference> {
+    let service = "fill costs";
+    let mut out = dirty_bytes(room, seed);
+    let mut found_out = out.clone();
+    let (found_head, found_laws) = (head.to_vec(), laws.to_vec());
+    let filled = (expected.fill_costs)(head, laws, lent_in(room, &mut out));
+    let found_filled = (found.fill_costs)(&found_head, &found_laws, lent_in(room, &mut found_out));
+    let name = |what: &str| format!("{what}, with {room} bytes lent");
+    expect_same(service, &[filled], &[found_filled], || name("answer"))?;
+    expect_same(service, &out, &found_out, || name(OUT_NAME))?;
+    expect_same(service, head, &found_head, || name("first part"))?;
+    expect_same(service, laws, &found_laws, || name("laws"))?;
+    Ok((filled, lent_in(room, &mut out).to_vec()))
 }
 
 /// Keeps the file and fails with the seed, the file's path and the difference.

@@ -2,14 +2,18 @@
 //! the costs of an accepted file.
 
 use crate::answer::Refusal;
+use crate::laws::Laws;
 
 pub const MOST_TASKS: usize = 12;
 pub const MOST_CORES: usize = 32;
 /// The greatest capacity, memory need, execution or transfer.
 pub const MOST_VALUE: u32 = 1_000_000;
 pub const RECORD_BYTES: usize = 8;
+/// The bytes of an accepted file of the most tasks and cores.
+pub const LARGEST: usize = 96_104;
 
-/// The costs of an accepted file. Each list holds the values of one kind in the order of its records.
+/// The costs of an accepted file, or of an accepted first part with laws. Each list holds the values of one kind in the order
+/// of its records; where there are laws, the times are theirs, and the last three lists are empty.
 #[derive(Clone, Debug, PartialEq, Eq)]
 pub struct Chain {
     pub tasks: usize,
@@ -22,6 +26,7 @@ pub struct Chain {
     pub executions: Vec<u32>,
     pub internals: Vec<u32>,
     pub externals: Vec<u32>,
+    pub laws: Option<Laws>,
 }
 
 /// Tasks and cores count from 1.
@@ -40,17 +45,26 @@ impl Chain {
     }
 
     pub fn execution(&self, task: usize, p: usize) -> u32 {
-        self.executions[(task - 1) * self.cores + p - 1]
+        match &self.laws {
+            None => self.executions[(task - 1) * self.cores + p - 1],
+            Some(laws) => laws.time(3, task, p, p),
+        }
     }
 
     /// From the task to the next one, both on the same p cores.
     pub fn internal(&self, task: usize, p: usize) -> u32 {
-        self.internals[(task - 1) * self.cores + p - 1]
+        match &self.laws {
+            None => self.internals[(task - 1) * self.cores + p - 1],
+            Some(laws) => laws.time(4, task, p, p),
+        }
     }
 
     /// From the task on s cores to the next one on q others.
     pub fn external(&self, task: usize, s: usize, q: usize) -> u32 {
-        self.externals[((task - 1) * self.cores + s - 1) * self.cores + q - 1]
+        match &self.laws {
+            None => self.externals[((task - 1) * self.cores + s - 1) * self.cores + q - 1],
+            Some(laws) => laws.time(5, task, s, q),
+        }
     }
 }
 
@@ -93,20 +107,38 @@ impl Record {
 
 /// What a record has before its value. The a and b of kind 2 are a flag and a limit, and not part of the key.
 #[derive(Clone, Copy)]
-struct Key {
-    kind: u8,
-    task: u8,
-    a: u8,
-    b: u8,
+pub struct Key {
+    pub kind: u8,
+    pub task: u8,
+    pub a: u8,
+    pub b: u8,
 }
 
-/// The keys of all records after the first, in their order.
-fn due_keys(tasks: u8, cores: u8) -> Vec<Key> {
+impl Key {
+    /// The record that has this key and a value.
+    pub fn record(self, value: u32) -> [u8; RECORD_BYTES] {
+        let [low, second, third, high] = value.to_le_bytes();
+        [
+            self.kind, self.task, self.a, self.b, low, second, third, high,
+        ]
+    }
+}
+
+/// The keys of the records of the tasks.
+fn task_keys(tasks: u8) -> Vec<Key> {
+    let due = |task| Key {
+        kind: 2,
+        task,
+        a: 0,
+        b: 0,
+    };
+    (1..=tasks).map(due).collect()
+}
+
+/// The keys of all records behind those of the tasks, in their order.
+pub fn time_keys(tasks: u8, cores: u8) -> Vec<Key> {
     let mut keys = Vec::new();
     let mut due = |kind, task, a, b| keys.push(Key { kind, task, a, b });
-    for task in 1..=tasks {
-        due(2, task, 0, 0);
-    }
     for task in 1..=tasks {
         (1..=cores).for_each(|p| due(3, task, p, 0));
     }
@@ -123,6 +155,19 @@ fn due_keys(tasks: u8, cores: u8) -> Vec<Key> {
 
 /// The costs that the bytes state, or the refusal that is due first.
 pub fn read(bytes: &[u8]) -> Result<Chain, Refusal> {
+    read_by(bytes, |tasks, cores| {
+        [task_keys(tasks), time_keys(tasks, cores)].concat()
+    })
+}
+
+/// The same of a first part, the records of kinds 1 and 2 (document 02, M-101: "there 4 asks for 1 + k records"). It has no
+/// times.
+pub fn read_head(bytes: &[u8]) -> Result<Chain, Refusal> {
+    read_by(bytes, |tasks, _| task_keys(tasks))
+}
+
+/// The reader of a file in which records with these keys, by k and P, are due behind the first one.
+fn read_by(bytes: &[u8], due_keys: impl Fn(u8, u8) -> Vec<Key>) -> Result<Chain, Refusal> {
     if bytes.len() < RECORD_BYTES || !bytes.len().is_multiple_of(RECORD_BYTES) {
         return Err(Refusal::new(1));
     }
@@ -170,6 +215,7 @@ fn chain_of(head: Record, records: &[Record]) -> Chain {
         executions: values(3),
         internals: values(4),
         externals: values(5),
+        laws: None,
     }
 }
 
@@ -178,8 +224,8 @@ pub fn write(chain: &Chain) -> Vec<u8> {
     let byte = |number: usize| u8::try_from(number).expect("tasks, cores and limits are bytes");
     let mut bytes = Vec::new();
     let mut record = |kind, task, a, b, value: u32| {
-        bytes.extend([kind, byte(task), byte(a), byte(b)]);
-        bytes.extend(value.to_le_bytes());
+        let (task, a, b) = (byte(task), byte(a), byte(b));
+        bytes.extend(Key { kind, task, a, b }.record(value));
     };
     record(1, 0, chain.cores, chain.tasks, chain.capacity);
     for task in 1..=chain.tasks {

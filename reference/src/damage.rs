@@ -1,5 +1,7 @@
 //! Files and plans that are damaged in one way or several.
 
+pub mod laws;
+
 use crate::cases;
 use crate::costs::RECORD_BYTES;
 use crate::plan::{self, Module, PLAN_BYTES};

@@ -19,25 +19,29 @@ pub fn best_plan_by(
     plan: &mut [u8],
     work: &mut [u32],
 ) -> Answer {
-    let chain = match start(costs, plan, work) {
-        Ok(chain) => chain,
-        Err(refusal) => return refusal.into(),
-    };
-    work.fill(0);
-    let best = search(&chain).ok_or(Refusal::new(9));
-    answer(best.map(|best| {
-        plan[..PLAN_BYTES].copy_from_slice(&plan::encode(&best));
-        plan::figures(&chain, &best)
-    }))
+    let read = costs::read(costs);
+    answer(read.and_then(|chain| planned(search, &chain, plan, work)))
 }
 
-fn start(costs: &[u8], plan: &[u8], work: &[u32]) -> Result<Chain, Refusal> {
-    let chain = costs::read(costs)?;
+/// The service on a chain in place of the bytes of its costs.
+pub fn best_plan_on(chain: &Chain, plan: &mut [u8], work: &mut [u32]) -> Answer {
+    answer(planned(search, chain, plan, work))
+}
+
+fn planned(
+    search: impl Fn(&Chain) -> Option<Vec<Module>>,
+    chain: &Chain,
+    plan: &mut [u8],
+    work: &mut [u32],
+) -> Result<Answer, Refusal> {
     plan::enough_bytes(plan)?;
     if work.len() < WORK_WORDS {
         return Err(Refusal::new(8));
     }
-    Ok(chain)
+    work.fill(0);
+    let best = search(chain).ok_or(Refusal::new(9))?;
+    plan[..PLAN_BYTES].copy_from_slice(&plan::encode(&best));
+    Ok(plan::figures(chain, &best))
 }
 
 /// The first plan in module order of those of fewest cores of those of least bottleneck that keep the rules.

@@ -18,22 +18,30 @@ pub fn greedy_plan_by(
     grouping: u16,
     plan: &mut [u8],
 ) -> Answer {
-    answer(grouped(costs, grouping, plan).and_then(|(chain, modules)| {
-        let best = walk(&chain, start(&chain, modules)?);
-        plan[..PLAN_BYTES].copy_from_slice(&plan::encode(&best));
-        Ok(plan::figures(&chain, &best))
-    }))
+    let read = costs::read(costs);
+    answer(read.and_then(|chain| planned(start, walk, &chain, grouping, plan)))
 }
 
-/// The chain and the modules of the grouping.
-fn grouped(costs: &[u8], grouping: u16, plan: &[u8]) -> Result<(Chain, Vec<Module>), Refusal> {
-    let chain = costs::read(costs)?;
+/// The service on a chain in place of the bytes of its costs.
+pub fn greedy_plan_on(chain: &Chain, grouping: u16, plan: &mut [u8]) -> Answer {
+    answer(planned(start, walk, chain, grouping, plan))
+}
+
+fn planned(
+    start: impl Fn(&Chain, Vec<Module>) -> Result<Vec<Module>, Refusal>,
+    walk: impl Fn(&Chain, Vec<Module>) -> Vec<Module>,
+    chain: &Chain,
+    grouping: u16,
+    plan: &mut [u8],
+) -> Result<Answer, Refusal> {
     plan::enough_bytes(plan)?;
     if grouping >> (chain.tasks - 1) != 0 {
         return Err(Refusal::new(10));
     }
     let modules = groups(chain.tasks, grouping);
-    Ok((chain, modules))
+    let best = walk(chain, start(chain, modules)?);
+    plan[..PLAN_BYTES].copy_from_slice(&plan::encode(&best));
+    Ok(plan::figures(chain, &best))
 }
 
 /// Bit i ends a module after task i + 1; the last one ends at the last task. One copy of one core each.

@@ -12,23 +12,28 @@ pub fn judge(costs: &[u8], plan: &[u8]) -> Answer {
 
 /// The service with any test of the limits.
 pub fn judge_by(within: Within, costs: &[u8], plan: &[u8]) -> Answer {
-    answer(figures_or_refusal(within, costs, plan))
+    let read = costs::read(costs);
+    answer(read.and_then(|chain| figures_or_refusal(within, &chain, plan)))
 }
 
-fn figures_or_refusal(within: Within, costs: &[u8], plan: &[u8]) -> Result<Answer, Refusal> {
-    let chain = costs::read(costs)?;
+/// The service on a chain in place of the bytes of its costs.
+pub fn judge_on(chain: &Chain, plan: &[u8]) -> Answer {
+    answer(figures_or_refusal(Module::within_limit, chain, plan))
+}
+
+fn figures_or_refusal(within: Within, chain: &Chain, plan: &[u8]) -> Result<Answer, Refusal> {
     let Some(bytes) = plan.first_chunk::<PLAN_BYTES>() else {
         return Err(Refusal::new(7));
     };
-    let modules = covering_modules(&chain, bytes)?;
-    let only_allowed_copies = |module: &Module| module.copies == 1 || module.replicable(&chain);
+    let modules = covering_modules(chain, bytes)?;
+    let only_allowed_copies = |module: &Module| module.copies == 1 || module.replicable(chain);
     test_all(&modules, 13, only_allowed_copies)?;
-    test_all(&modules, 14, |module| module.memory_fits(&chain))?;
-    test_all(&modules, 16, |module| within(module, &chain))?;
+    test_all(&modules, 14, |module| module.memory_fits(chain))?;
+    test_all(&modules, 16, |module| within(module, chain))?;
     if plan::cores(&modules) > chain.cores {
         return Err(Refusal::new(15));
     }
-    Ok(plan::figures(&chain, &modules))
+    Ok(plan::figures(chain, &modules))
 }
 
 /// The modules up to the one that ends at task k, or refusal 12 at the first record at fault.

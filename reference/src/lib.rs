@@ -1,10 +1,10 @@
 //! A second planner of core plans, written from documents 01 (the scope) and 02 (the requests), to hold the static library
 //! against.
 //!
-//! `costs`, `plan`, `judge`, `greedy` and `every` say what the services answer, in the most obvious way; `every` tries all
-//! plans. `threshold` is the library's own algorithm in Rust and `paper` the dynamic program of source document 000.
-//! `cases` and `damage` make files from seeds; `compare` and `round` tell two providers of the services apart. `written` reads
-//! the cases that are written as text.
+//! `costs`, `plan`, `judge`, `greedy`, `every` and `laws` say what the services answer, in the most obvious way; `every` tries
+//! all plans. `threshold` is the library's own algorithm in Rust and `paper` the dynamic program of source document 000.
+//! `cases` and `damage` make files and laws from seeds; `compare` and `round` tell two providers of the services apart.
+//! `written` reads the cases that are written as text.
 
 pub mod answer;
 pub mod cases;
@@ -14,6 +14,7 @@ pub mod damage;
 pub mod every;
 pub mod greedy;
 pub mod judge;
+pub mod laws;
 pub mod library;
 pub mod paper;
 pub mod plan;

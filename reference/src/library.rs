@@ -1,6 +1,6 @@
-//! The static library's services (document 01's three), called over slices.
+//! The static library's services (document 01's three, and document 02's), called over slices.
 
-use crate::answer::Answer;
+use crate::answer::{Answer, Filled};
 
 // A slice is a pointer and a count of elements. The library reads and writes what is lent and nothing else, and keeps no
 // pointer; lent slices do not overlap.
@@ -26,6 +26,14 @@ unsafe extern "C" {
         work: *mut u32,
         work_len: usize,
     ) -> Answer;
+    fn zombreki_fill_costs(
+        head: *const u8,
+        head_len: usize,
+        laws: *const u8,
+        laws_len: usize,
+        out: *mut u8,
+        out_len: usize,
+    ) -> Filled;
 }
 
 pub fn judge(costs: &[u8], plan: &[u8]) -> Answer {
@@ -60,9 +68,25 @@ pub fn best_plan(costs: &[u8], plan: &mut [u8], work: &mut [u32]) -> Answer {
     }
 }
 
+pub fn fill_costs(head: &[u8], laws: &[u8], out: &mut [u8]) -> Filled {
+    // SAFETY: pointers and lengths are those of live slices; the output is lent for writing, and none overlap.
+    unsafe {
+        zombreki_fill_costs(
+            head.as_ptr(),
+            head.len(),
+            laws.as_ptr(),
+            laws.len(),
+            out.as_mut_ptr(),
+            out.len(),
+        )
+    }
+}
+
 #[cfg(test)]
 mod tests {
     use super::*;
+    use crate::answer::Refusal;
+    use crate::laws::Law;
     use std::ptr::{null, null_mut};
 
     /// The pointer of an empty slice is not looked at.
@@ -79,6 +103,10 @@ mod tests {
         for answer in answers {
             assert_eq!((answer.refusal, answer.place), (1, 0));
         }
+        // SAFETY: the same.
+        let filled = unsafe { zombreki_fill_costs(null(), 0, null(), 0, null_mut(), 0) };
+        let refused = Refusal::new(1).into();
+        assert_eq!(filled, refused);
     }
 
     #[test]
@@ -93,5 +121,8 @@ mod tests {
         assert_eq!(greedy_plan(costs, 0, &mut []).refusal, 7);
         assert_eq!(best_plan(costs, &mut [], &mut []).refusal, 7);
         assert_eq!(best_plan(costs, &mut [0; 48], &mut []).refusal, 8);
+        let (head, law) = (&costs[..16], Law::Constant(5).encode(3, 1));
+        assert_eq!(fill_costs(head, &[], &mut []).refusal, 17);
+        assert_eq!(fill_costs(head, &law, &mut []).refusal, 19);
     }
 }

@@ -1,14 +1,16 @@
 //! The benchmark: `cargo run --release`. Times Best plan of the static library beside the same search in Rust, the dynamic
-//! program of source document 000 and, where the file is small, trying all plans.
+//! program of source document 000 and, where the file is small, trying all plans; and filling in costs from laws.
 
 use std::hint::black_box;
 use std::time::Instant;
 
+use reference::answer::Filled;
+use reference::cases::laws::LawKind;
 use reference::cases::{self, Kind};
 use reference::costs::{self, Chain};
 use reference::every::{self, WORK_WORDS};
 use reference::plan::PLAN_BYTES;
-use reference::{library, paper, threshold};
+use reference::{laws, library, paper, threshold};
 
 const RUNS: usize = 11;
 
@@ -29,14 +31,13 @@ const EVERY: Search = |costs, plan, work| {
     black_box(every::best_plan(costs, plan, work));
 };
 
-/// The median time of each search, in milliseconds; one run of each in turn.
-fn medians(costs: &[u8], searches: &[Search]) -> Vec<f64> {
-    let (mut plan, mut work) = (vec![0; PLAN_BYTES], vec![0; WORK_WORDS]);
-    let mut times = vec![Vec::new(); searches.len()];
+/// The median time of each, in milliseconds; one run of each in turn.
+fn medians(runs: &mut [Box<dyn FnMut() + '_>]) -> Vec<f64> {
+    let mut times = vec![Vec::new(); runs.len()];
     for _ in 0..RUNS {
-        for (search, times) in searches.iter().zip(&mut times) {
+        for (run, times) in runs.iter_mut().zip(&mut times) {
             let start = Instant::now();
-            search(black_box(costs), &mut plan, &mut work);
+            run();
             times.push(start.elapsed().as_secs_f64() * 1e3);
         }
     }
@@ -44,6 +45,12 @@ fn medians(costs: &[u8], searches: &[Search]) -> Vec<f64> {
         .iter_mut()
         .for_each(|times| times.sort_by(f64::total_cmp));
     times.iter().map(|times| times[RUNS / 2]).collect()
+}
+
+/// The search on a cost file, again and again in the same buffers.
+fn repeated<'a>(costs: &'a [u8], search: &'a Search) -> Box<dyn FnMut() + 'a> {
+    let (mut plan, mut work) = (vec![0; PLAN_BYTES], vec![0; WORK_WORDS]);
+    Box::new(move || search(black_box(costs), &mut plan, &mut work))
 }
 
 /// Realistic costs, then adversarial ones: without memory needs and core limits nothing cuts the search short.
@@ -75,7 +82,9 @@ fn files(tasks: usize, cores: usize) -> Vec<(&'static str, Chain)> {
 
 fn print_rows(tasks: usize, cores: usize, searches: &[Search]) {
     for (name, chain) in files(tasks, cores) {
-        let times = medians(&costs::write(&chain), searches);
+        let costs = costs::write(&chain);
+        let mut runs: Vec<_> = searches.iter().map(|s| repeated(&costs, s)).collect();
+        let times = medians(&mut runs);
         print!("{tasks:>5} {cores:>5}  {name:<24}");
         times.iter().for_each(|time| print!(" {time:>10.3}"));
         print!("{}", " ".repeat(11 * (4 - times.len())));
@@ -85,6 +94,29 @@ fn print_rows(tasks: usize, cores: usize, searches: &[Search]) {
             .for_each(|time| print!(" {:>11.2}", time / times[0]));
         println!();
     }
+}
+
+/// One way to fill in costs from laws (document 02, M-101).
+type Fill = fn(&[u8], &[u8], &mut [u8]) -> Filled;
+
+/// Filling in the costs of the largest board from laws with terms, by the library and in Rust.
+fn print_filling() {
+    let case = cases::laws::sized(LawKind::Realistic, 12, 32, 7);
+    let run = |fill: Fill| -> Box<dyn FnMut()> {
+        let (case, mut out) = (case.clone(), vec![0; costs::LARGEST]);
+        Box::new(move || {
+            let filled = fill(black_box(&case.head), black_box(&case.laws), &mut out);
+            assert_eq!(black_box(filled).refusal, 0);
+        })
+    };
+    let times = medians(&mut [run(library::fill_costs), run(laws::fill_costs)]);
+    let [library, rust] = times[..] else {
+        unreachable!("two ways to fill in");
+    };
+    let ratio = library / rust;
+    println!(
+        "\nFilling in from laws, 12 tasks, 32 cores: library {library:.3}, in Rust {rust:.3}, ratio {ratio:.2}"
+    );
 }
 
 const NOTES: &str = "\
@@ -102,4 +134,5 @@ fn main() {
     print_rows(12, 32, &[LIBRARY, THRESHOLD, PAPER]);
     print_rows(8, 16, &[LIBRARY, THRESHOLD, PAPER]);
     print_rows(5, 10, &[LIBRARY, THRESHOLD, PAPER, EVERY]);
+    print_filling();
 }

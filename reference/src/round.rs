@@ -1,36 +1,32 @@
 //! All services on one file, accepted or damaged, compared, with a count of what was met.
 
+pub mod laws;
+
 use crate::answer::Answer;
 use crate::cases::Case;
-use crate::compare::{self, Difference, Lent};
+use crate::compare::{self, Both, Difference, Lent};
 use crate::damage;
 use crate::every::WORK_WORDS;
 use crate::plan::PLAN_BYTES;
 use crate::random::Random;
-use crate::services::Services;
 use crate::tally::Tally;
 
 /// Best plan; Judge on its plan; the greedy plan with every grouping, and Judge on each; Judge on some random plans.
-pub fn all(
-    expected: &Services,
-    found: &Services,
-    case: &Case,
-    tally: &mut Tally,
-) -> Result<(), Difference> {
+pub fn all(both: &Both, case: &Case, tally: &mut Tally) -> Result<(), Difference> {
     let mut random = Random::new(!case.seed);
     let lent = Lent {
         plan: PLAN_BYTES + random.pick(&[0, 0, 1, 5]),
         work: WORK_WORDS + random.pick(&[0, 0, 1, 100]),
         seed: random.word(),
     };
-    let (answer, plan) = compare::best_plan(expected, found, &case.costs, lent)?;
+    let (answer, plan) = compare::best_plan(both, lent)?;
     count("best plan", answer, tally);
-    judge_filled(expected, found, case, answer, &plan)?;
-    all_groupings(expected, found, case, lent, tally)?;
+    judge_filled(both, answer, &plan)?;
+    all_groupings(both, case, lent, tally)?;
     for _ in 0..6 {
         let (tasks, cores) = (case.costs[3].into(), case.costs[2].into());
         let plan = damage::random_plan(tasks, cores, &mut random);
-        let answer = compare::judge(expected, found, &case.costs, &plan)?;
+        let answer = compare::judge(both, &plan)?;
         count("judge", answer, tally);
     }
     Ok(())
@@ -38,8 +34,7 @@ pub fn all(
 
 /// Every grouping that the chain has, then one with each bit that it has not.
 fn all_groupings(
-    expected: &Services,
-    found: &Services,
+    both: &Both,
     case: &Case,
     lent: Lent,
     tally: &mut Tally,
@@ -48,25 +43,19 @@ fn all_groupings(
     let allowed = 0..1 << (tasks - 1);
     let beyond = (tasks - 1..16).map(|bit| 1 << bit | 1);
     for grouping in allowed.chain(beyond) {
-        let (answer, plan) = compare::greedy_plan(expected, found, &case.costs, grouping, lent)?;
+        let (answer, plan) = compare::greedy_plan(both, grouping, lent)?;
         count("greedy plan", answer, tally);
-        judge_filled(expected, found, case, answer, &plan)?;
+        judge_filled(both, answer, &plan)?;
     }
     Ok(())
 }
 
 /// Judge answers the figures of whoever filled the plan in.
-fn judge_filled(
-    expected: &Services,
-    found: &Services,
-    case: &Case,
-    answer: Answer,
-    plan: &[u8],
-) -> Result<(), Difference> {
+fn judge_filled(both: &Both, answer: Answer, plan: &[u8]) -> Result<(), Difference> {
     if answer.refusal != 0 {
         return Ok(());
     }
-    let judged = compare::judge(expected, found, &case.costs, plan)?;
+    let judged = compare::judge(both, plan)?;
     if judged != answer {
         let what = format!("filled in as {answer:?}, judged as {judged:?}");
         let service = "judge";
@@ -77,26 +66,20 @@ fn judge_filled(
 
 /// Each service once on a file that may be damaged; one time in four the buffers are too short as well, which counts only if
 /// the file is accepted.
-pub fn damaged(
-    expected: &Services,
-    found: &Services,
-    costs: &[u8],
-    random: &mut Random,
-    tally: &mut Tally,
-) -> Result<(), Difference> {
+pub fn damaged(both: &Both, random: &mut Random, tally: &mut Tally) -> Result<(), Difference> {
     let lent = Lent {
         plan: random.pick(&[PLAN_BYTES, PLAN_BYTES, PLAN_BYTES + 3, PLAN_BYTES - 1]),
         work: random.pick(&[WORK_WORDS, WORK_WORDS, WORK_WORDS + 3, WORK_WORDS - 1]),
         seed: random.word(),
     };
-    let (answer, _) = compare::best_plan(expected, found, costs, lent)?;
+    let (answer, _) = compare::best_plan(both, lent)?;
     count("best plan", answer, tally);
     let grouping = random.word() as u16 >> random.below(16);
-    let (answer, _) = compare::greedy_plan(expected, found, costs, grouping, lent)?;
+    let (answer, _) = compare::greedy_plan(both, grouping, lent)?;
     count("greedy plan", answer, tally);
     let mut plan = damage::random_plan(3, 8, random).to_vec();
     plan.resize(lent.plan, 255);
-    let answer = compare::judge(expected, found, costs, &plan)?;
+    let answer = compare::judge(both, &plan)?;
     count("judge", answer, tally);
     Ok(())
 }

@@ -1,13 +1,17 @@
-//! The three services under one name each, so that any two providers of them can be compared.
+//! The services under one name each, so that any two providers of them can be compared.
 
-use crate::answer::Answer;
-use crate::{every, greedy, judge, library, threshold};
+use crate::answer::{Answer, Filled};
+use crate::costs::Chain;
+use crate::{every, greedy, judge, laws, library, threshold};
 
-/// A provider of document 01's services.
+/// A provider of document 01's three services, and of document 02's.
+#[derive(Clone, Copy)]
 pub struct Services {
     pub judge: fn(&[u8], &[u8]) -> Answer,
     pub greedy_plan: fn(&[u8], u16, &mut [u8]) -> Answer,
     pub best_plan: fn(&[u8], &mut [u8], &mut [u32]) -> Answer,
+    /// First part, laws, output.
+    pub fill_costs: fn(&[u8], &[u8], &mut [u8]) -> Filled,
 }
 
 /// What the services are to answer; its Best plan tries all plans and is for small files.
@@ -15,6 +19,7 @@ pub const REFERENCE: Services = Services {
     judge: judge::judge,
     greedy_plan: greedy::greedy_plan,
     best_plan: every::best_plan,
+    fill_costs: laws::fill_costs,
 };
 
 /// The same for files of any size, with the threshold search.
@@ -28,4 +33,55 @@ pub const LIBRARY: Services = Services {
     judge: library::judge,
     greedy_plan: library::greedy_plan,
     best_plan: library::best_plan,
+    fill_costs: library::fill_costs,
 };
+
+impl Services {
+    /// Its three services on these bytes.
+    pub fn on(self, costs: &[u8]) -> OnBytes<'_> {
+        let services = self;
+        OnBytes { services, costs }
+    }
+}
+
+/// Document 01's three services on costs that are settled.
+pub trait Planner {
+    fn judge(&self, plan: &[u8]) -> Answer;
+    fn greedy_plan(&self, grouping: u16, plan: &mut [u8]) -> Answer;
+    fn best_plan(&self, plan: &mut [u8], work: &mut [u32]) -> Answer;
+}
+
+/// A provider and the bytes of cost records, accepted or not.
+pub struct OnBytes<'a> {
+    services: Services,
+    costs: &'a [u8],
+}
+
+impl Planner for OnBytes<'_> {
+    fn judge(&self, plan: &[u8]) -> Answer {
+        (self.services.judge)(self.costs, plan)
+    }
+
+    fn greedy_plan(&self, grouping: u16, plan: &mut [u8]) -> Answer {
+        (self.services.greedy_plan)(self.costs, grouping, plan)
+    }
+
+    fn best_plan(&self, plan: &mut [u8], work: &mut [u32]) -> Answer {
+        (self.services.best_plan)(self.costs, plan, work)
+    }
+}
+
+/// The second planner without bytes of costs. A chain that has laws is planned from these.
+impl Planner for Chain {
+    fn judge(&self, plan: &[u8]) -> Answer {
+        judge::judge_on(self, plan)
+    }
+
+    fn greedy_plan(&self, grouping: u16, plan: &mut [u8]) -> Answer {
+        greedy::greedy_plan_on(self, grouping, plan)
+    }
+
+    fn best_plan(&self, plan: &mut [u8], work: &mut [u32]) -> Answer {
+        every::best_plan_on(self, plan, work)
+    }
+}

@@ -4,6 +4,8 @@ mod call;
 mod check;
 mod costs;
 mod due;
+mod fill;
+mod laws;
 mod words;
 
 use std::fs;
@@ -12,6 +14,8 @@ use std::path::{Path, PathBuf};
 use crate::services::Services;
 use call::Call;
 use due::Due;
+use fill::Fill;
+use laws::Lawful;
 
 /// A line of `cases/*.txt` that is a case, with its file and number.
 pub struct Line {
@@ -44,34 +48,60 @@ fn lines_of(path: &Path) -> Vec<Line> {
         .collect()
 }
 
-/// A case, understood.
+/// Cost records, or what they are to be filled in from.
 #[derive(Debug)]
-struct Case {
-    costs: Vec<u8>,
+enum Costs {
+    Records(Vec<u8>),
+    Laws(Lawful),
+}
+
+/// A case of document 01's three services, understood.
+#[derive(Debug)]
+struct Planned {
+    costs: Costs,
     call: Call,
     due: Due,
 }
 
+/// Any case, understood.
+#[derive(Debug)]
+enum Case {
+    Planned(Planned),
+    Fill(Fill),
+}
+
 /// Reads a line, and holds the library and the second planner to it; else what cannot be read, or what differs.
 pub fn run(line: &str) -> Result<(), String> {
-    check::agree(&parse(line)?)
+    match parse(line)? {
+        Case::Planned(case) => check::agree(&case),
+        Case::Fill(case) => fill::agree(&case),
+    }
 }
 
 /// Reads a line, and holds one provider of the services to it.
 pub fn hold(services: &Services, line: &str) -> Result<(), String> {
-    check::held(services, &parse(line)?)
+    match parse(line)? {
+        Case::Planned(case) => check::held(services, &case),
+        Case::Fill(case) => fill::held(services, &case),
+    }
 }
 
 fn parse(line: &str) -> Result<Case, String> {
     let (costs, rest) = words::split(line, ": ")?;
     let (call, due) = words::split(rest, " => ")?;
-    let case = Case {
-        costs: costs::parse(costs)?,
+    if let Some(out) = fill::call(call) {
+        return Ok(Case::Fill(fill::parse(costs, out?, due)?));
+    }
+    let case = Planned {
+        costs: match laws::parse(costs) {
+            Some(lawful) => Costs::Laws(lawful?),
+            None => Costs::Records(costs::parse(costs)?),
+        },
         call: call::parse(call)?,
         due: due::parse(due)?,
     };
     if case.call.suits(&case.due) {
-        Ok(case)
+        Ok(Case::Planned(case))
     } else {
         Err(format!("`{due}` is not what `{call}` can be due"))
     }
@@ -103,6 +133,12 @@ mod tests {
             "small dock: judge 1 2 1 1 => refusal 14",
             "small dock: read => refusal 4",
             "small dock, capacity = 0: read => accepted",
+            "every law 0, k = 1, P = 1: fill costs => 32 bytes",
+            "every law 0, k = 1, P = 1: fill costs => refusal 19",
+            "every law 0, k = 1, P = 1: fill costs => 24 bytes, execution of task 1 = 1",
+            "every law 0, k = 1, P = 1, zero of law 1 = 1: fill costs => 24 bytes",
+            "every law 0, k = 1, P = 1, zero of law 1 = 1: fill costs => refusal 17, place 1",
+            "every law 0, k = 1, P = 1, zero of law 1 = 1: best plan => refusal 17",
         ] {
             assert!(run(wrong).is_err(), "{wrong}");
         }
@@ -135,6 +171,35 @@ mod tests {
             "small dock: bench way 1 with 7 words => refusal 10",
             "small dock: judge 1 2 2 2 => 1 modules, 4 cores, slowest 1, response 18, r 2",
             "small dock: judge 1 2 2 2  => 1 module, 4 cores, slowest 1, response 18, r 2",
+        ] {
+            assert!(parse(wrong).is_err(), "{wrong}");
+        }
+    }
+
+    #[test]
+    fn laws_that_cannot_be_read_are_an_error() {
+        for wrong in [
+            "small dock: fill costs => 248 bytes",
+            "small dock by laws: fill costs => accepted",
+            "small dock by laws: fill costs => 31 records",
+            "small dock by laws: fill costs => plan 1 2 2 2; 1 module, 4 cores, slowest 1, response 18, r 2",
+            "small dock by laws: fill costs => 248 bytes of small costs",
+            "small dock by laws: fill costs => 248 bytes, execution of task 3 = 1",
+            "small dock by laws: fill costs into 247 bytes => 248 bytes",
+            "small dock by laws: fill costs with 7 words => 248 bytes",
+            "small dock by laws: best plan => 248 bytes",
+            "small dock by laws, 232 bytes more: fill costs => 248 bytes",
+            "small dock by laws, execution of task 1 = 5: fill costs => 248 bytes",
+            "small dock by laws, execution of task 1 by 1 2: fill costs => 248 bytes",
+            "small dock by laws, execution of task 3 by 1: fill costs => 248 bytes",
+            "small dock by laws, need of task 1 by 1: fill costs => 248 bytes",
+            "small dock by laws, form of law 5 = 1: fill costs => refusal 17",
+            "small dock by laws, form of law 1: fill costs => refusal 17",
+            "small dock by laws, C6 of law 1 = 1: fill costs => refusal 17",
+            "small dock by laws, zero of law 1 = 256: fill costs => refusal 17",
+            "small dock by laws, byte 96 of laws = 1: fill costs => refusal 17",
+            "small dock by laws, laws cut to 97 bytes: fill costs => refusal 17",
+            "rising laws, k = 13, P = 1: fill costs => refusal 3",
         ] {
             assert!(parse(wrong).is_err(), "{wrong}");
         }

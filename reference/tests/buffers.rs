@@ -1,7 +1,7 @@
 //! What is lent: too little, enough, more; dirty; at any address; empty. Bytes and words beside it stay as they are.
 
 use reference::cases::{self, Case, Kind};
-use reference::compare::{self, Lent};
+use reference::compare::{self, Both, Lent};
 use reference::costs;
 use reference::every::WORK_WORDS;
 use reference::plan::PLAN_BYTES;
@@ -40,12 +40,12 @@ const WORK_LENGTHS: [usize; 8] = [0, 1, 11_264, 16_382, 16_383, 16_384, 16_385, 
 fn every_length() {
     assert!(PLAN_LENGTHS.contains(&PLAN_BYTES) && WORK_LENGTHS.contains(&WORK_WORDS));
     for case in files() {
+        let both = Both::on(&REFERENCE, &LIBRARY, &case.costs);
         for plan in PLAN_LENGTHS {
             for work in WORK_LENGTHS {
                 let seed = (plan * work) as u64;
                 let lent = Lent { plan, work, seed };
-                let result = compare::best_plan(&REFERENCE, &LIBRARY, &case.costs, lent);
-                if let Err(difference) = result {
+                if let Err(difference) = compare::best_plan(&both, lent) {
                     compare::fail(seed, &case.costs, &difference);
                 }
             }
@@ -55,9 +55,7 @@ fn every_length() {
                     work: 0,
                     seed: grouping.into(),
                 };
-                let result =
-                    compare::greedy_plan(&REFERENCE, &LIBRARY, &case.costs, grouping, lent);
-                if let Err(difference) = result {
+                if let Err(difference) = compare::greedy_plan(&both, grouping, lent) {
                     compare::fail(lent.seed, &case.costs, &difference);
                 }
             }
@@ -73,9 +71,9 @@ fn judge_reads_48_bytes() {
         let whole = (LIBRARY.judge)(&case.costs, &plan);
         plan.resize(100, 255);
         assert_eq!((LIBRARY.judge)(&case.costs, &plan), whole);
+        let both = Both::on(&REFERENCE, &LIBRARY, &case.costs);
         for length in 0..=plan.len() {
-            let lent = &plan[..length];
-            if let Err(difference) = compare::judge(&REFERENCE, &LIBRARY, &case.costs, lent) {
+            if let Err(difference) = compare::judge(&both, &plan[..length]) {
                 compare::fail(case.seed, &case.costs, &difference);
             }
         }
@@ -90,8 +88,9 @@ fn costs_at_every_address() {
             longer.extend(&case.costs);
             longer.extend([7; 8]);
             let costs = &longer[start..start + case.costs.len()];
+            let both = Both::on(&REFERENCE, &LIBRARY, costs);
             let lent = Lent::enough(start as u64);
-            if let Err(difference) = compare::best_plan(&REFERENCE, &LIBRARY, costs, lent) {
+            if let Err(difference) = compare::best_plan(&both, lent) {
                 compare::fail(case.seed, costs, &difference);
             }
         }
@@ -112,8 +111,8 @@ fn same_answer_again() {
         assert_eq!((again, &plan), (first, &first_plan));
         assert!(work.iter().all(|&word| word == 0));
     }
-    let lent = Lent::enough(3);
-    if let Err(difference) = compare::best_plan(&QUICK_REFERENCE, &LIBRARY, &case.costs, lent) {
+    let both = Both::on(&QUICK_REFERENCE, &LIBRARY, &case.costs);
+    if let Err(difference) = compare::best_plan(&both, Lent::enough(3)) {
         compare::fail(case.seed, &case.costs, &difference);
     }
 }

@@ -2,7 +2,7 @@
 
 use reference::answer::{Answer, Refusal};
 use reference::cases::{self, Case, Kind};
-use reference::compare::{self, Lent};
+use reference::compare::{self, Both, Lent};
 use reference::costs::{self, MOST_CORES, RECORD_BYTES};
 use reference::damage::{self, DAMAGES};
 use reference::every::WORK_WORDS;
@@ -22,9 +22,8 @@ fn damaged_files() {
         let kind = DAMAGES[seed as usize / OF_EACH_DAMAGE];
         let (costs, mut random) = damage::small(seed, kind);
         tally.add(format!("damage {kind:?}"));
-        if let Err(difference) =
-            round::damaged(&REFERENCE, &LIBRARY, &costs, &mut random, &mut tally)
-        {
+        let both = Both::on(&REFERENCE, &LIBRARY, &costs);
+        if let Err(difference) = round::damaged(&both, &mut random, &mut tally) {
             compare::fail(seed, &costs, &difference);
         }
     }
@@ -54,9 +53,10 @@ fn damaged_files_of_the_greatest_size() {
             work: WORK_WORDS - 1,
             seed,
         };
-        let result = compare::best_plan(&REFERENCE, &LIBRARY, &costs, lent).and_then(|_| {
+        let both = Both::on(&REFERENCE, &LIBRARY, &costs);
+        let result = compare::best_plan(&both, lent).and_then(|_| {
             let plan = damage::random_plan(12, 32, &mut random);
-            compare::judge(&REFERENCE, &LIBRARY, &costs, &plan)
+            compare::judge(&both, &plan)
         });
         if let Err(difference) = result {
             compare::fail(seed, &costs, &difference);
@@ -73,9 +73,9 @@ fn every_byte_of_a_file() {
             changed[i] = value;
             let seed = i as u64 * 256 + u64::from(value);
             let plan = [1, 2, 1, 2].repeat(RECORDS);
-            let result = compare::judge(&REFERENCE, &LIBRARY, &changed, &plan).and_then(|_| {
-                compare::greedy_plan(&REFERENCE, &LIBRARY, &changed, 1, Lent::enough(seed))
-            });
+            let both = Both::on(&REFERENCE, &LIBRARY, &changed);
+            let result = compare::judge(&both, &plan)
+                .and_then(|_| compare::greedy_plan(&both, 1, Lent::enough(seed)));
             if let Err(difference) = result {
                 compare::fail(seed, &changed, &difference);
             }
@@ -102,9 +102,10 @@ fn every_limit_of_a_task() {
             let judged = limit_by_library(&changed);
             assert_eq!(judged, expected, "limit {limit} of task {task}, library");
             let lent = Lent::enough(limit.into());
-            let result = compare::best_plan(&REFERENCE, &LIBRARY, &changed, lent).and_then(|_| {
-                compare::greedy_plan(&REFERENCE, &LIBRARY, &changed, 0, lent)?;
-                compare::greedy_plan(&REFERENCE, &LIBRARY, &changed, 1, lent)
+            let both = Both::on(&REFERENCE, &LIBRARY, &changed);
+            let result = compare::best_plan(&both, lent).and_then(|_| {
+                compare::greedy_plan(&both, 0, lent)?;
+                compare::greedy_plan(&both, 1, lent)
             });
             if let Err(difference) = result {
                 compare::fail(lent.seed, &changed, &difference);
@@ -153,7 +154,8 @@ fn judge_all_changes(case: &Case, plan: &[u8], values: &[u8], tally: &mut Tally)
 }
 
 fn judged(case: &Case, plan: &[u8]) -> Answer {
-    match compare::judge(&REFERENCE, &LIBRARY, &case.costs, plan) {
+    let both = Both::on(&REFERENCE, &LIBRARY, &case.costs);
+    match compare::judge(&both, plan) {
         Ok(answer) => answer,
         Err(difference) => compare::fail(case.seed, &case.costs, &difference),
     }

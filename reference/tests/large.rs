@@ -3,7 +3,7 @@
 
 use reference::answer::Answer;
 use reference::cases::{self, Case, KINDS, Kind};
-use reference::compare::{self, Difference, Lent};
+use reference::compare::{self, Both, Difference, Lent};
 use reference::costs::{self, MOST_CORES, MOST_TASKS, MOST_VALUE};
 use reference::paper;
 use reference::plan::Load;
@@ -14,19 +14,19 @@ use reference::tally::Tally;
 
 /// Best plan by all three searches, Judge on its plan, and the greedy plan with some groupings.
 fn check(case: &Case, tally: &mut Tally) -> Result<(), Difference> {
+    let both = Both::on(&QUICK_REFERENCE, &LIBRARY, &case.costs);
     let lent = Lent::enough(case.seed);
-    let (answer, plan) = compare::best_plan(&QUICK_REFERENCE, &LIBRARY, &case.costs, lent)?;
+    let (answer, plan) = compare::best_plan(&both, lent)?;
     round::count("best plan", answer, tally);
     expect_bottleneck(&case.costs, answer)?;
-    compare::judge(&QUICK_REFERENCE, &LIBRARY, &case.costs, &plan)?;
+    compare::judge(&both, &plan)?;
     let mut random = Random::new(case.seed);
     for _ in 0..20 {
         let grouping = random.word() as u16 & ((1 << (case.costs[3] - 1)) - 1);
         let grouping = grouping & random.word() as u16;
-        let (answer, plan) =
-            compare::greedy_plan(&QUICK_REFERENCE, &LIBRARY, &case.costs, grouping, lent)?;
+        let (answer, plan) = compare::greedy_plan(&both, grouping, lent)?;
         round::count("greedy plan", answer, tally);
-        compare::judge(&QUICK_REFERENCE, &LIBRARY, &case.costs, &plan)?;
+        compare::judge(&both, &plan)?;
     }
     Ok(())
 }

@@ -2,7 +2,7 @@
 
 use reference::answer::Answer;
 use reference::cases::{self, KINDS, Kind};
-use reference::compare::{self, Difference, Lent};
+use reference::compare::{self, Both, Difference, Lent};
 use reference::costs::{self, Chain, MOST_CORES, MOST_VALUE};
 use reference::every::WORK_WORDS;
 use reference::greedy;
@@ -20,7 +20,8 @@ fn library_answers_as_the_reference() {
     for seed in 0..(OF_EACH_KIND * KINDS.len()) as u64 {
         let case = cases::small(seed);
         tally.add(format!("kind {:?}", case.kind));
-        if let Err(difference) = round::all(&REFERENCE, &LIBRARY, &case, &mut tally) {
+        let both = Both::on(&REFERENCE, &LIBRARY, &case.costs);
+        if let Err(difference) = round::all(&both, &case, &mut tally) {
             compare::fail(seed, &case.costs, &difference);
         }
     }
@@ -147,7 +148,8 @@ fn fractions_as_near_as_can_be() {
             for (seed, first_is_less) in [(0, true), (1, false)] {
                 let chain = nearly_equal_plans(copies, transfer, first_is_less);
                 let costs = costs::write(&chain);
-                match compare::best_plan(&REFERENCE, &LIBRARY, &costs, Lent::enough(seed)) {
+                let both = Both::on(&REFERENCE, &LIBRARY, &costs);
+                match compare::best_plan(&both, Lent::enough(seed)) {
                     Ok((answer, _)) => tally.add(format!("{} modules", answer.modules)),
                     Err(difference) => compare::fail(seed, &costs, &difference),
                 }
@@ -163,8 +165,8 @@ fn fractions_as_near_as_can_be() {
 fn quick_searches_find_what_trying_all_plans_finds() {
     for seed in 1_000_000..1_006_000 {
         let case = cases::small(seed);
-        let lent = Lent::enough(seed);
-        let answer = match compare::best_plan(&REFERENCE, &QUICK_REFERENCE, &case.costs, lent) {
+        let both = Both::on(&REFERENCE, &QUICK_REFERENCE, &case.costs);
+        let answer = match compare::best_plan(&both, Lent::enough(seed)) {
             Ok((answer, _)) => answer,
             Err(difference) => compare::fail(seed, &case.costs, &difference),
         };

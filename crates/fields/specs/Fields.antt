@@ -8,9 +8,13 @@ use lib.ListN.{getD}
 abbrev pub byteAt : List ℕ → ℕ → ℕ → ℕ
 byteAt s n j = getD s (8 * n + j) 0
 
--- the value of the record that starts at byte i, lowest byte first, and of record n
+-- the number in four bytes, lowest first
+abbrev pub wordOf : ℕ → ℕ → ℕ → ℕ → ℕ
+wordOf x y z w = x + 256 * y + 65536 * z + 16777216 * w
+
+-- the value of the record that starts at byte i, and of record n
 abbrev pub valueFrom : List ℕ → ℕ → ℕ
-valueFrom s i = getD s (i + 4) 0 + 256 * getD s (i + 5) 0 + 65536 * getD s (i + 6) 0 + 16777216 * getD s (i + 7) 0
+valueFrom s i = wordOf (getD s (i + 4) 0) (getD s (i + 5) 0) (getD s (i + 6) 0) (getD s (i + 7) 0)
 
 unfoldable pub valueAt : List ℕ → ℕ → ℕ
 valueAt s n = valueFrom s (8 * n)

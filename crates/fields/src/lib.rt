@@ -5,3 +5,4 @@ mod bytes;
 pub use bytes::byte_at;
 pub use bytes::value_at;
 pub use bytes::wide;
+pub use bytes::word;

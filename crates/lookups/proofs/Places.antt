@@ -29,11 +29,11 @@ pub cellOf-lt : (w n i j : ℕ) → 1 ≤ i → i ≤ n → 1 ≤ j → j ≤ w 
 unfolding cellOf
 cellOf-lt w n i j a b c d = cell-lt w (i - 1) (j - 1) (omega arith) n (omega arith)
 
-cellOf-div : (w i j : ℕ) → 1 ≤ i → 1 ≤ j → j ≤ w → cellOf w i j / w + 1 ≡ i
+pub cellOf-div : (w i j : ℕ) → 1 ≤ i → 1 ≤ j → j ≤ w → cellOf w i j / w + 1 ≡ i
 unfolding cellOf
 cellOf-div w i j a c d = omega (arith, cell-div w (i - 1) (j - 1) (omega arith))
 
-cellOf-mod : (w i j : ℕ) → 1 ≤ j → j ≤ w → cellOf w i j % w + 1 ≡ j
+pub cellOf-mod : (w i j : ℕ) → 1 ≤ j → j ≤ w → cellOf w i j % w + 1 ≡ j
 unfolding cellOf
 cellOf-mod w i j c d = omega (arith, cell-mod w (i - 1) (j - 1) (omega arith))
 

@@ -23,10 +23,14 @@ ComesFirst c a b =
     ⊎ (AtMost (bottleneck c a) (bottleneck c b) × AtMost (bottleneck c b) (bottleneck c a)
     × ((coresOf a < coresOf b) ⊎ ((coresOf a ≡ coresOf b) × ((a ≡ b) ⊎ Before a b))))
 
--- the plan a is filled in: the first 48 bytes are its, the rest as lent, the answer is its figures; it keeps the rules, and comes
--- before every plan that does
-pub record Filled (s w work : List ℕ) (a : List Module) : Type 0 where
+-- the plan a is filled in for the costs s: the first 48 bytes are its, the rest as lent, the answer is its figures on the chain c; on c
+-- it keeps the rules, and comes before every plan that does
+pub record BestFor (c : Chain) (s w work : List ℕ) (a : List Module) : Type 0 where
   pub bytes : bestBytes s w work ≡ encodePlan a ++ drop planBytes w
-  pub figures : bestAnswer s w work ≡ figuresOf (chainOf s (readCosts s .board)) a
-  pub keeps : keepsRules (chainOf s (readCosts s .board)) a ≡ true
-  pub first : (b : List Module) → keepsRules (chainOf s (readCosts s .board)) b ≡ true → ComesFirst (chainOf s (readCosts s .board)) a b
+  pub figures : bestAnswer s w work ≡ figuresOf c a
+  pub keeps : keepsRules c a ≡ true
+  pub first : (b : List Module) → keepsRules c b ≡ true → ComesFirst c a b
+
+-- the same on the chain of these costs
+abbrev pub Filled : List ℕ → List ℕ → List ℕ → List Module → Type 0
+Filled s = BestFor (chainOf s (readCosts s .board)) s

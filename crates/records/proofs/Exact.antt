@@ -15,8 +15,8 @@ use Rattle.records.specs.declared.Board.{Board}
 use Rattle.records.specs.declared.Reading.{Reading}
 use Rattle.records.specs.declared.Refusal.{Refusal}
 use Rattle.records.specs.declared.Key.{Key}
-use Rattle.records.specs.Costs.{mostTasks, mostCores, mostValue, dueKeys, countOf, keyMeets, valueMeets, faultAt, firstFault, accepted, refused, lengthMeets, headMeets, boardOf, boardMeets, readRecords, readHead, readCosts}
-use Rattle.records.specs.Format.{Bears, InRange, Whole, Headed, Ranged, Long, dueAt, RightBelow, IsCosts, Framed, Finds, Finds.costs, Finds.length-wrong, Finds.head-wrong, Finds.board-wrong, Finds.count-wrong, Finds.key-wrong, Finds.value-wrong}
+use Rattle.records.specs.Costs.{mostTasks, mostCores, mostValue, dueKeys, countOf, keyMeets, valueMeets, faultAt, firstFault, accepted, refused, lengthMeets, headMeets, boardOf, boardMeets, readHead, readBoard, readRecords, readCosts}
+use Rattle.records.specs.Format.{Bears, InRange, Deserves, Deserves.right, Deserves.wrong-key, Deserves.wrong-value, Whole, Headed, Ranged, Long, dueAt, RightBelow, IsCosts, Opens, Opens.board, Opens.length-wrong as opens-length, Opens.head-wrong as opens-head, Opens.board-wrong as opens-board, Framed, Finds, Finds.costs, Finds.length-wrong, Finds.head-wrong, Finds.board-wrong, Finds.count-wrong, Finds.key-wrong, Finds.value-wrong}
 use Rattle.records.proofs.Cases.{true-or-false, true-not-false, false-unless, and-true, or-right, or-unless}
 use Rattle.records.proofs.Listing.{keys-count}
 use Rattle.records.proofs.Walk.{faultOf, Scanned, Scanned.clean, Scanned.found, scanned, scanned-only}
@@ -72,26 +72,29 @@ module _ (s : List ℕ) (n : ℕ) (d : Key) where
       two : not (eqb (d .kind) 2) ≡ false → d .kind ≡ 2
       two f = ⊎-elim (λ t. eqb-true _ _ t) (λ (t : eqb (d .kind) 2 ≡ false). true-not-false (not (eqb (d .kind) 2)) (simp t) f) (true-or-false (eqb (d .kind) 2))
 
-  right-no-fault : Bears s n d → InRange s n d → faultAt s n d ≡ 0
+  pub deserved : Deserves s n d (faultAt s n d)
   unfolding faultAt
-  right-no-fault b r = simp (bears-meets b, in-range-meets r)
-
-  key-fault : (Bears s n d → ⊥) → faultAt s n d ≡ 5
-  unfolding faultAt
-  key-fault b = simp (false-unless (keyMeets s n d) meets-bears b)
-
-  value-fault : Bears s n d → (InRange s n d → ⊥) → faultAt s n d ≡ 6
-  unfolding faultAt
-  value-fault b r = simp (bears-meets b, false-unless (valueMeets s n d) meets-in-range r)
-
-  no-fault-right : faultAt s n d ≡ 0 → Bears s n d × InRange s n d
-  no-fault-right e = ⊎-elim
-      (λ t. ⊎-elim
-      (λ u. (meets-bears t, meets-in-range u))
-      (λ u. absurd (omega (arith, sym (value-fault (meets-bears t) (λ r. true-not-false _ (in-range-meets r) u)) ∙ e)))
+  deserved = ⊎-elim
+      (λ (t : keyMeets s n d ≡ true). ⊎-elim
+      (λ (u : valueMeets s n d ≡ true). rw (t, u) (right (meets-bears t) (meets-in-range u)))
+      (λ (u : valueMeets s n d ≡ false). rw (t, u) (wrong-value (meets-bears t) (λ r. true-not-false _ (in-range-meets r) u)))
       (true-or-false (valueMeets s n d)))
-      (λ t. absurd (omega (arith, sym (key-fault (λ b. true-not-false _ (bears-meets b) t)) ∙ e)))
+      (λ (t : keyMeets s n d ≡ false). rw t (wrong-key (λ b. true-not-false _ (bears-meets b) t)))
       (true-or-false (keyMeets s n d))
+
+  pub deserved-only : (f : ℕ) → Deserves s n d f → faultAt s n d ≡ f
+  unfolding faultAt
+  deserved-only f (right b r) = simp (bears-meets b, in-range-meets r)
+  deserved-only f (wrong-key b) = simp (false-unless (keyMeets s n d) meets-bears b)
+  deserved-only f (wrong-value b r) = simp (bears-meets b, false-unless (valueMeets s n d) meets-in-range r)
+
+  pub no-fault-right : faultAt s n d ≡ 0 → Bears s n d × InRange s n d
+  no-fault-right e = none (faultAt s n d) deserved e
+    where
+      none : (f : ℕ) → Deserves s n d f → f ≡ 0 → Bears s n d × InRange s n d
+      none f (right b r) z = (b, r)
+      none f (wrong-key b) z = absurd (omega arith)
+      none f (wrong-value b r) z = absurd (omega arith)
 
 -- ---- what stands before the walk
 
@@ -168,22 +171,15 @@ module _ (s : List ℕ) where
         long = g .long;
         right = right-below (countOf (b .tasks) (b .cores)) (λ i l u. h i l (omega (arith, keys-count (b .tasks) (b .cores))));
       })
-  walked g f (found i l u h z) = ⊎-elim
-      (λ t. ⊎-elim
-      (λ v. absurd (z (right-no-fault s i (dueAt b i) (meets-bears s i (dueAt b i) t) (meets-in-range s i (dueAt b i) v))))
-      (λ v. let r : InRange s i (dueAt b i) → ⊥ = λ r. true-not-false _ (in-range-meets s i (dueAt b i) r) v in
-      rw (value-fault s i (dueAt b i) (meets-bears s i (dueAt b i) t) r)
-      (value-wrong i g l inside before (meets-bears s i (dueAt b i) t) r))
-      (true-or-false (valueMeets s i (dueAt b i))))
-      (λ t. let r : Bears s i (dueAt b i) → ⊥ = λ r. true-not-false _ (bears-meets s i (dueAt b i) r) t in
-      rw (key-fault s i (dueAt b i) r) (key-wrong i g l inside before r))
-      (true-or-false (keyMeets s i (dueAt b i)))
+  walked g f (found i l u h z) = faulty (faultOf s keys i) (deserved s i (dueAt b i)) z
     where
       inside : i < countOf (b .tasks) (b .cores)
       inside = omega (arith, keys-count (b .tasks) (b .cores))
 
-      before : RightBelow s b i
-      before = right-below i h
+      faulty : (n : ℕ) → Deserves s i (dueAt b i) n → (n ≡ 0 → ⊥) → Finds s (cond (eqb n 0) (accepted b) (refused n (i + 1)))
+      faulty n (right c r) z = absurd (z refl)
+      faulty n (wrong-key c) z = key-wrong i g l inside (right-below i h) c
+      faulty n (wrong-value c r) z = value-wrong i g l inside (right-below i h) c r
 
   long-finds : Whole s → Headed s → Ranged b → Finds s (readRecords s b)
   unfolding readRecords keys b
@@ -193,30 +189,58 @@ module _ (s : List ℕ) where
       (λ t. rw t (count-wrong w h r (eqb-false _ _ t)))
       (true-or-false (eqb (length s) (8 * countOf (b .tasks) (b .cores))))
 
-  head-finds : Whole s → Finds s (readHead s)
+  head-opens : Whole s → Opens s (readHead s)
   unfolding readHead b
-  head-finds w = ⊎-elim
+  head-opens w = ⊎-elim
       (λ (t : headMeets s ≡ true). ⊎-elim
-      (λ (u : boardMeets b ≡ true). rw (t, u) (long-finds w (meets-headed s t) (meets-ranged b u)))
-      (λ (u : boardMeets b ≡ false). rw (t, u) (board-wrong w (meets-headed s t) (λ r. true-not-false _ (ranged-meets b r) u)))
+      (λ (u : boardMeets b ≡ true). rw (t, u) (board w (meets-headed s t) (meets-ranged b u)))
+      (λ (u : boardMeets b ≡ false). rw (t, u) (opens-board w (meets-headed s t) (λ r. true-not-false _ (ranged-meets b r) u)))
       (true-or-false (boardMeets b)))
-      (λ t. rw t (head-wrong w (λ h. true-not-false _ (headed-meets s h) t)))
+      (λ t. rw t (opens-head w (λ h. true-not-false _ (headed-meets s h) t)))
       (true-or-false (headMeets s))
+
+  pub opens : Opens s (readBoard s)
+  unfolding readBoard
+  opens = ⊎-elim
+      (λ t. rw t (head-opens (meets-whole s t)))
+      (λ t. rw t (opens-length (λ w. true-not-false _ (whole-meets s w) t)))
+      (true-or-false (lengthMeets s))
+
+  pub opens-only : (r : Reading) → Opens s r → readBoard s ≡ r
+  unfolding b readHead readBoard
+  opens-only r (board w h g) = simp (whole-meets s w, headed-meets s h, ranged-meets b g)
+  opens-only r (opens-length w) = simp (false-unless (lengthMeets s) (meets-whole s) w)
+  opens-only r (opens-head w h) = simp (whole-meets s w, false-unless (headMeets s) (meets-headed s) h)
+  opens-only r (opens-board w h g) = simp (whole-meets s w, headed-meets s h, false-unless (boardMeets b) (meets-ranged b) g)
+
+  pub opens-ranged : (r : Reading) → r ≡ readBoard s → r .number ≡ 0 → Ranged (r .board)
+  opens-ranged r e z = ranged r (rw (← e) at opens) z
+    where
+      ranged : (r : Reading) → Opens s r → r .number ≡ 0 → Ranged (r .board)
+      ranged r (board w h g) z = g
+      ranged r (opens-length w) z = absurd (omega arith)
+      ranged r (opens-head w h) z = absurd (omega arith)
+      ranged r (opens-board w h g) z = absurd (omega arith)
+
+  -- what follows the first record, or its refusal
+  after : (r : Reading) → Opens s r → Finds s (cond (eqb (r .number) 0) (readRecords s (r .board)) r)
+  unfolding b
+  after r (board w h g) = long-finds w h g
+  after r (opens-length w) = length-wrong w
+  after r (opens-head w h) = head-wrong w h
+  after r (opens-board w h g) = board-wrong w h g
 
   pub reads : Finds s (readCosts s)
   unfolding readCosts
-  reads = ⊎-elim
-      (λ t. rw t (head-finds (meets-whole s t)))
-      (λ t. rw t (length-wrong (λ w. true-not-false _ (whole-meets s w) t)))
-      (true-or-false (lengthMeets s))
+  reads = after (readBoard s) opens
 
   -- ---- what is to be found, reading finds
 
   framed-reads : (f : Refusal) → Framed s → Scanned s keys 1 f → readCosts s ≡ cond (eqb (f .number) 0) (accepted b) (refused (f .number) (f .place))
-  unfolding readCosts readHead readRecords keys b
+  unfolding readCosts readRecords keys b
   framed-reads f g h =
       let e = scanned-only s keys 1 f (omega (arith, keys-count (b .tasks) (b .cores), some-records (b .tasks) (b .cores))) h in
-      simp (whole-meets s (g .whole), headed-meets s (g .headed), ranged-meets b (g .ranged), eq-eqb (length s) (8 * countOf (b .tasks) (b .cores)) (g .long), e)
+      simp (opens-only (accepted b) (board (g .whole) (g .headed) (g .ranged)), eq-eqb (length s) (8 * countOf (b .tasks) (b .cores)) (g .long), e)
 
   costs-whole : Long s b → Whole s
   unfolding b
@@ -226,7 +250,7 @@ module _ (s : List ℕ) where
   unfolding keys b
   costs-reads c =
       framed-reads (record { number = 0; place = 0 }) (record { whole = costs-whole (c .long); headed = c .headed; ranged = c .ranged; long = c .long })
-      (clean (λ i l u. let r = c .right i l (omega (arith, keys-count (b .tasks) (b .cores))) in right-no-fault s i (dueAt b i) (r .0) (r .1)))
+      (clean (λ i l u. let r = c .right i l (omega (arith, keys-count (b .tasks) (b .cores))) in deserved-only s i (dueAt b i) 0 (right (r .0) (r .1))))
 
   module _ (n : ℕ) (g : Framed s) (l : 1 ≤ n) (u : n < countOf (b .tasks) (b .cores)) (before : RightBelow s b n) where
     fault-reads : (number : ℕ) → faultAt s n (dueAt b n) ≡ suc number → readCosts s ≡ refused (suc number) (n + 1)
@@ -234,18 +258,18 @@ module _ (s : List ℕ) where
     fault-reads number e =
         framed-reads (record { number = faultOf s keys n; place = n + 1 }) g
         (found n l (omega (arith, keys-count (b .tasks) (b .cores)))
-        (λ j p q. let r = before j p q in right-no-fault s j (dueAt b j) (r .0) (r .1)) (λ z. omega (arith, sym e ∙ z)))
+        (λ j p q. let r = before j p q in deserved-only s j (dueAt b j) 0 (right (r .0) (r .1))) (λ z. omega (arith, sym e ∙ z)))
         ∙ rw e (simp (ne-eqb (suc number) 0 (λ z. omega arith)))
 
   pub reads-only : (r : Reading) → Finds s r → readCosts s ≡ r
-  unfolding b readCosts readHead readRecords
+  unfolding b readCosts readRecords
   reads-only r (costs c h) = rw (h .board) (costs-reads (rw (h .board) at h))
-  reads-only r (length-wrong w) = simp (false-unless (lengthMeets s) (meets-whole s) w)
-  reads-only r (head-wrong w h) = simp (whole-meets s w, false-unless (headMeets s) (meets-headed s) h)
-  reads-only r (board-wrong w h g) = simp (whole-meets s w, headed-meets s h, false-unless (boardMeets b) (meets-ranged b) g)
-  reads-only r (count-wrong w h g c) = simp (whole-meets s w, headed-meets s h, ranged-meets b g, ne-eqb (length s) (8 * countOf (b .tasks) (b .cores)) c)
-  reads-only r (key-wrong n g l u before k) = fault-reads n g l u before 4 (key-fault s n (dueAt b n) k)
-  reads-only r (value-wrong n g l u before k v) = fault-reads n g l u before 5 (value-fault s n (dueAt b n) k v)
+  reads-only r (length-wrong w) = simp (opens-only (refused 1 0) (opens-length w))
+  reads-only r (head-wrong w h) = simp (opens-only (refused 2 0) (opens-head w h))
+  reads-only r (board-wrong w h g) = simp (opens-only (refused 3 0) (opens-board w h g))
+  reads-only r (count-wrong w h g c) = simp (opens-only (accepted b) (board w h g), ne-eqb (length s) (8 * countOf (b .tasks) (b .cores)) c)
+  reads-only r (key-wrong n g l u before k) = fault-reads n g l u before 4 (deserved-only s n (dueAt b n) 5 (wrong-key k))
+  reads-only r (value-wrong n g l u before k v) = fault-reads n g l u before 5 (deserved-only s n (dueAt b n) 6 (wrong-value k v))
 
   pub finds-costs : (r : Reading) → Finds s r → r .number ≡ 0 → IsCosts s (r .board)
   finds-costs r (costs c h) e = h

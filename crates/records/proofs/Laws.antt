@@ -8,8 +8,8 @@ use lib.ListN.{length, getD}
 use Rattle.records.specs.declared.Board.{Board}
 use Rattle.records.specs.declared.Reading.{Reading}
 use Rattle.records.specs.declared.Key.{Key}
-use Rattle.records.specs.Costs.{key, dueKeys, dueKey, countOf, accepted, readCosts}
-use Rattle.records.specs.Format.{Ranged, Long, IsCosts, Finds, Finds.costs}
+use Rattle.records.specs.Costs.{key, dueKeys, dueKey, countOf, faultAt, accepted, readBoard, readCosts}
+use Rattle.records.specs.Format.{Deserves, Ranged, Long, IsCosts, Opens, Finds, Finds.costs}
 use Rattle.records.proofs.Exact as exact
 use Rattle.records.proofs.Listing as listing
 
@@ -25,6 +25,16 @@ module _ (k p : ℕ) (none : Key) where
 
   pub key-at : (n : ℕ) → 1 ≤ n → n < countOf k p → getD (dueKeys k p) n none ≡ dueKey k p n
   key-at = listing.key-at k p none
+
+-- ---- one record: each of refusals 5 and 6 is due exactly under its condition
+
+pub fault-exactly : (s : List ℕ) (n : ℕ) (d : Key) (f : ℕ) → (faultAt s n d ≡ f) ↔ Deserves s n d f
+fault-exactly s n d f = (λ e. rw e at (exact.deserved s n d), exact.deserved-only s n d f)
+
+-- ---- the first record: each of refusals 1 to 3 is due exactly under its condition
+
+pub board-exactly : (s : List ℕ) (r : Reading) → (readBoard s ≡ r) ↔ Opens s r
+board-exactly s r = (λ e. rw e at (exact.opens s), exact.opens-only s r)
 
 -- ---- reading: exactly what document 01 describes is accepted, and each refusal is due exactly under its condition
 

@@ -17,21 +17,21 @@ use Rattle.records.proofs.Cases.{lt-or-le, pos-of-lt-mul}
 -- ---- a list in two parts
 
 module _ (xs ys : List Key) (w : ℕ) (long : length xs ≡ w) (d : Key) (n : ℕ) where
-  getD-before : n < w → getD (xs ++ ys) n d ≡ getD xs n d
+  pub getD-before : n < w → getD (xs ++ ys) n d ≡ getD xs n d
   getD-before h = List·getD-append xs ys d n (omega arith)
 
-  getD-past : w ≤ n → getD (xs ++ ys) n d ≡ getD ys (n - w) d
+  pub getD-past : w ≤ n → getD (xs ++ ys) n d ≡ getD ys (n - w) d
   getD-past h =
       let e : n ≡ length xs + (n - w) = omega arith in
       ap (λ (m : ℕ). getD (xs ++ ys) m d) e ∙ getD-append-add xs ys (n - w) d
 
-getD-behind : (x : Key) (xs : List Key) (d : Key) (n : ℕ) → 1 ≤ n → getD (x ∷ xs) n d ≡ getD xs (n - 1) d
+pub getD-behind : (x : Key) (xs : List Key) (d : Key) (n : ℕ) → 1 ≤ n → getD (x ∷ xs) n d ≡ getD xs (n - 1) d
 getD-behind x xs d zero h = absurd (omega arith)
 getD-behind x xs d (suc n) h = ap (λ (m : ℕ). getD xs m d) (omega arith)
 
 -- ---- runs of keys
 
-length-each : (i n : ℕ) (f : ℕ → Key) → length (eachFrom i n f) ≡ n
+pub length-each : (i n : ℕ) (f : ℕ → Key) → length (eachFrom i n f) ≡ n
 unfolding eachFrom
 length-each i zero f = refl
 length-each i (suc n) f = ap suc (length-each (i + 1) n f)
@@ -42,11 +42,11 @@ eachFrom-at i zero f d j h = absurd (omega arith)
 eachFrom-at i (suc n) f d zero h = ap f (omega arith)
 eachFrom-at i (suc n) f d (suc j) h = eachFrom-at (i + 1) n f d j (omega arith) ∙ ap f (omega arith)
 
-each-at : (n : ℕ) (f : ℕ → Key) (d : Key) (j : ℕ) → j < n → getD (each n f) j d ≡ f (j + 1)
+pub each-at : (n : ℕ) (f : ℕ → Key) (d : Key) (j : ℕ) → j < n → getD (each n f) j d ≡ f (j + 1)
 each-at n f d j h = eachFrom-at 0 n f d j h ∙ ap f (omega arith)
 
 module _ (w : ℕ) (f : ℕ → List Key) (long : (t : ℕ) → length (f t) ≡ w) where
-  length-join : (i n : ℕ) → length (joinFrom i n f) ≡ n * w
+  pub length-join : (i n : ℕ) → length (joinFrom i n f) ≡ n * w
   unfolding joinFrom
   length-join i zero = sym (zero-mul w)
   length-join i (suc n) = omega (arith, length-append (f (i + 1)) (joinFrom (i + 1) n f), long (i + 1), length-join (i + 1) n, suc-mul n w)
@@ -66,7 +66,7 @@ module _ (w : ℕ) (f : ℕ → List Key) (long : (t : ℕ) → length (f t) ≡
           let e : i + 1 + (j - w) / w + 1 ≡ i + j / w + 1 = omega (arith, div-eq-sub-div p l) in
           getD-past (f (i + 1)) (joinFrom (i + 1) n f) w (long (i + 1)) d j l ∙ rest ∙ rw (mod-eq-sub-mod l, e)
 
-  join-at : (d : Key) (n j : ℕ) → j < n * w → getD (join n f) j d ≡ getD (f (j / w + 1)) (j % w) d
+  pub join-at : (d : Key) (n j : ℕ) → j < n * w → getD (join n f) j d ≡ getD (f (j / w + 1)) (j % w) d
   join-at d n j h =
       let e : 0 + j / w + 1 ≡ j / w + 1 = omega arith in
       joinFrom-at (pos-of-lt-mul j n w h) d 0 n j h ∙ ap (λ (t : ℕ). getD (f t) (j % w) d) e

@@ -117,15 +117,20 @@ unfoldable pub boardMeets : Board → Bool
 boardMeets b =
     leb 1 (b .cores) && leb (b .cores) mostCores && leb 1 (b .tasks) && leb (b .tasks) mostTasks && leb 1 (b .capacity) && leb (b .capacity) mostValue
 
+-- refusals 2 and 3, or the board that the first record states
+unfoldable pub readHead : List ℕ → Reading
+readHead s = cond (headMeets s) (cond (boardMeets (boardOf s)) (accepted (boardOf s)) (refused 3 0)) (refused 2 0)
+
+-- the same after refusal 1
+unfoldable pub readBoard : List ℕ → Reading
+readBoard s = cond (lengthMeets s) (readHead s) (refused 1 0)
+
 -- refusal 4, then the walk over the records after the first
 unfoldable pub readRecords : List ℕ → Board → Reading
 readRecords s b =
     let f = firstFault s 1 (drop 1 (dueKeys (b .tasks) (b .cores))) in
     cond (eqb (length s) (8 * countOf (b .tasks) (b .cores))) (cond (eqb (f .number) 0) (accepted b) (refused (f .number) (f .place))) (refused 4 0)
 
-unfoldable pub readHead : List ℕ → Reading
-readHead s = cond (headMeets s) (cond (boardMeets (boardOf s)) (readRecords s (boardOf s)) (refused 3 0)) (refused 2 0)
-
 -- what reading the file s finds
 unfoldable pub readCosts : List ℕ → Reading
-readCosts s = cond (lengthMeets s) (readHead s) (refused 1 0)
+readCosts s = let r = readBoard s in cond (eqb (r .number) 0) (readRecords s (r .board)) r

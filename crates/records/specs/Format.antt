@@ -23,6 +23,12 @@ pub record InRange (s : List ℕ) (n : ℕ) (d : Key) : Type 0 where
   pub flag : d .kind ≡ 2 → byteAt s n 2 ≤ 1
   pub limit : d .kind ≡ 2 → byteAt s n 3 ≤ mostCores
 
+-- the refusal that record n deserves where the key is due: none, 5, or 6; in one record 5 goes first
+pub data Deserves (s : List ℕ) (n : ℕ) (d : Key) : ℕ → Type 0 where
+  right : Bears s n d → InRange s n d → Deserves s n d 0
+  wrong-key : (Bears s n d → ⊥) → Deserves s n d 5
+  wrong-value : Bears s n d → (InRange s n d → ⊥) → Deserves s n d 6
+
 -- whole records, one at least
 pub record Whole (s : List ℕ) : Type 0 where
   pub some : 8 ≤ length s
@@ -61,6 +67,13 @@ pub record IsCosts (s : List ℕ) (b : Board) : Type 0 where
   pub ranged : Ranged b
   pub long : Long s b
   pub right : RightBelow s b (countOf (b .tasks) (b .cores))
+
+-- what the first record is to say of the board, each of refusals 1 to 3 under its condition
+pub data Opens (s : List ℕ) : Reading → Type 0 where
+  board : Whole s → Headed s → Ranged (boardOf s) → Opens s (accepted (boardOf s))
+  length-wrong : (Whole s → ⊥) → Opens s (refused 1 0)
+  head-wrong : Whole s → (Headed s → ⊥) → Opens s (refused 2 0)
+  board-wrong : Whole s → Headed s → (Ranged (boardOf s) → ⊥) → Opens s (refused 3 0)
 
 -- s passes what is tested before the walk over its records
 pub record Framed (s : List ℕ) : Type 0 where

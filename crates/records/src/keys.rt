@@ -8,7 +8,7 @@ use fields::value_at;
 use fields::wide;
 
 // The most that a value of any kind may be, in KiB or ticks.
-pub(crate) const MOST_VALUE: u32 = 1000000;
+pub const MOST_VALUE: u32 = 1000000;
 
 // The most cores of a board, and the greatest limit of a task.
 pub(crate) const MOST_CORES: u8 = 32;

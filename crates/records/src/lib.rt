@@ -3,14 +3,16 @@
 //
 // A task's core limit (document 02, M-100) is byte b of its record.
 //
-// `read` says whether a byte string is a board's costs, or which of refusals 1 to 6 is due. No public function has a `requires`: each
-// answers for every slice and every number.
+// `read` says whether a byte string is a board's costs, or which of refusals 1 to 6 is due; `read_board` asks the length and the
+// first record only, refusals 1 to 3. No public function has a `requires`: each answers for every slice and every number.
 mod keys;
 mod scan;
 
+pub use keys::MOST_VALUE;
 pub use keys::count;
 pub use keys::fault;
 pub use scan::read;
+pub use scan::read_board;
 
 // The board of document 01: its k tasks, its P cores and the capacity of a core in KiB.
 pub struct Board {
@@ -30,6 +32,15 @@ pub struct Reading {
 pub struct Refusal {
     pub number: u32,
     pub place: u32,
+}
+
+// What a service that only fills an output answers (document 01, "Three services"): how many bytes or entries it has filled in, or a
+// refusal's number and place, with count 0.
+#[repr(C)]
+pub struct Filled {
+    pub refusal: u32,
+    pub place: u32,
+    pub count: u32,
 }
 
 // What the first four bytes of a record are to be.

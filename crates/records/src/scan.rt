@@ -1,8 +1,8 @@
-// Reading a file: refusals 1 to 4, then one walk over the records in which the earliest faulty one decides.
+// Reading a file: its first record, then the count and one walk over the records in which the earliest faulty one decides.
 ghost use mathlib.Core.Path.{_≡_};
 ghost use Prim.Native.Nat.{_≤_};
 ghost use lib.ListN.{drop};
-ghost use Rattle.records.specs.Costs.{dueKeys, firstFault, boardMeets, refused, readRecords, readHead, readCosts};
+ghost use Rattle.records.specs.Costs.{dueKeys, firstFault, boardMeets, refused, readHead, readBoard, readRecords, readCosts};
 use crate::Board;
 use crate::Reading;
 use crate::Refusal;
@@ -79,27 +79,7 @@ fn board_meets(board: Board) -> bool
     board.capacity <= MOST_VALUE
 }
 
-// The length and the records, for a board in range: refusals 4, 5 and 6.
-fn read_records(costs: &[u8], board: Board) -> Reading
-    requires { ⌜ (1 ≤ board .tasks) × (1 ≤ board .cores) ⌝ }
-    ensures { λ r. ⌜ r ≡ readRecords (now (costs .entry)) board ⌝ }
-{
-    let total = count(board.tasks, board.cores);
-    if costs.len() != RECORD * (total as usize) {
-        return refuse(4, 0);
-    }
-    let f = first_fault(costs, board.tasks, board.cores);
-    if f.number != 0 {
-        return refuse(f.number, f.place);
-    }
-    Reading {
-        number: 0,
-        place: 0,
-        board,
-    }
-}
-
-// The first record, refusals 2 and 3, and what follows.
+// The first record's board, or which of refusals 2 and 3 is due.
 fn read_head(costs: &[u8]) -> Reading
     ensures { λ r. ⌜ r ≡ readHead (now (costs .entry)) ⌝ }
 {
@@ -120,15 +100,19 @@ fn read_head(costs: &[u8]) -> Reading
         capacity,
     };
     if board_meets(board) {
-        read_records(costs, board)
+        Reading {
+            number: 0,
+            place: 0,
+            board,
+        }
     } else {
         refuse(3, 0)
     }
 }
 
-// The board of a file of cost records, or the refusal that is due and its place.
-pub fn read(costs: &[u8]) -> Reading
-    ensures { λ r. ⌜ r ≡ readCosts (now (costs .entry)) ⌝ }
+// The board that the first record of a file states, or which of refusals 1 to 3 is due.
+pub fn read_board(costs: &[u8]) -> Reading
+    ensures { λ r. ⌜ r ≡ readBoard (now (costs .entry)) ⌝ }
 {
     if costs.len() < RECORD {
         return refuse(1, 0);
@@ -137,4 +121,35 @@ pub fn read(costs: &[u8]) -> Reading
         return refuse(1, 0);
     }
     read_head(costs)
+}
+
+// The length and the records, for a board in range: refusals 4, 5 and 6.
+fn read_records(costs: &[u8], board: Board) -> Reading
+    requires { ⌜ (1 ≤ board .tasks) × (1 ≤ board .cores) ⌝ }
+    ensures { λ r. ⌜ r ≡ readRecords (now (costs .entry)) board ⌝ }
+{
+    let total = count(board.tasks, board.cores);
+    if costs.len() != RECORD * (total as usize) {
+        return refuse(4, 0);
+    }
+    let f = first_fault(costs, board.tasks, board.cores);
+    if f.number != 0 {
+        return refuse(f.number, f.place);
+    }
+    Reading {
+        number: 0,
+        place: 0,
+        board,
+    }
+}
+
+// The board of a file of cost records, or the refusal that is due and its place.
+pub fn read(costs: &[u8]) -> Reading
+    ensures { λ r. ⌜ r ≡ readCosts (now (costs .entry)) ⌝ }
+{
+    let head = read_board(costs);
+    if head.number != 0 {
+        return head;
+    }
+    read_records(costs, head.board)
 }

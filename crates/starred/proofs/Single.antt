@@ -7,7 +7,7 @@ use mathlib.Core.List.{List, [], _∷_, _++_, map}
 use lib.ListN.{length, getD, replicate, set}
 use lib.Dec.{eqb}
 use Rattle.records.specs.declared.Board.{Board}
-use Rattle.records.specs.Costs.{eachFrom, joinFrom, dueKeys, countOf, accepted, keyMeets, valueMeets, faultAt, firstFault, lengthMeets, headMeets, boardMeets, readRecords, readHead, readCosts}
+use Rattle.records.specs.Costs.{eachFrom, joinFrom, dueKeys, countOf, accepted, keyMeets, valueMeets, faultAt, firstFault, lengthMeets, headMeets, boardMeets, readRecords, readHead, readBoard, readCosts}
 use Rattle.fields.specs.Fields.{valueAt}
 use Rattle.lookups.specs.Lookups.{within, hasNext, cellOf, needOf, replicableOf, limitOf, executionOf, internalOf, pairPlace, pairOf, externalOf}
 use Rattle.modules.specs.declared.Module.{Module}
@@ -47,7 +47,7 @@ readings :
     × (readCosts (million 244) ≡ accepted (board 4 100))
     × (readCosts fixedDock ≡ accepted (board 4 100))
     × (readCosts smallest ≡ accepted (record { tasks = 1; cores = 1; capacity = 7 }))
-unfolding valueAt eachFrom joinFrom dueKeys countOf keyMeets valueMeets faultAt firstFault lengthMeets headMeets boardMeets readRecords readHead readCosts smallDock fixedDock
+unfolding valueAt eachFrom joinFrom dueKeys countOf keyMeets valueMeets faultAt firstFault lengthMeets headMeets boardMeets readHead readBoard readRecords readCosts smallDock fixedDock
 readings = (refl, refl, refl, refl, refl, refl)
 
 -- costs of tasks and cores that are not there are 0, and their parts empty

@@ -1,7 +1,7 @@
 -- The starred examples of document 01, computed: what each case says comes of the definitions. Assumes nothing.
 use mathlib.Core.Path.{refl}
 use Rattle.fields.specs.Fields.{valueAt}
-use Rattle.records.specs.Costs.{eachFrom, joinFrom, dueKeys, countOf, keyMeets, valueMeets, faultAt, firstFault, lengthMeets, headMeets, boardMeets, readRecords, readHead, readCosts}
+use Rattle.records.specs.Costs.{eachFrom, joinFrom, dueKeys, countOf, keyMeets, valueMeets, faultAt, firstFault, lengthMeets, headMeets, boardMeets, readRecords, readHead, readBoard, readCosts}
 use Rattle.lookups.specs.Lookups.{within, hasNext, cellOf, needOf, replicableOf, limitOf, executionOf, internalOf, pairPlace, pairOf, externalOf}
 use Rattle.modules.specs.Model.{run, gather, body, transfer, response}
 use Rattle.modules.specs.Rules.{memoryFits, copiesAllowed, tighter, limitFrom, moduleLimit, allows, withinLimit, moduleRules, fewestFrom, fewestCores}
@@ -17,5 +17,5 @@ use Rattle.starred.specs.Dock.{smallDock, fixedDock, dockOf, zeroed, idl
 use Rattle.starred.specs.Cases.{Each, lent, words, starred}
 
 pub each-holds : Each starred
-unfolding valueAt eachFrom joinFrom dueKeys countOf keyMeets valueMeets faultAt firstFault lengthMeets headMeets boardMeets readRecords readHead readCosts within hasNext cellOf needOf replicableOf limitOf executionOf internalOf pairPlace pairOf externalOf run gather body transfer response coresOf slowerOf slowestFrom bottleneck memoryFits copiesAllowed tighter limitFrom moduleLimit allows withinLimit moduleRules fewestFrom fewestCores covers eachAllowed keepsRules countFrom moduleCount modulesFrom modulesOf encode figuresOf isBlank isModule blankFault shapeFault firstFailing judgedPlan judgedBytes judged inTurn every scan isBetter bestPlan foundAnswer foundBytes begins bestAnswer bestBytes bit startFrom start give mayTake consider predecessor next greedyFrom greedyPlan startFits greedyOn greedyAnswer greedyBytesOn greedyBytes smallDock fixedDock dockOf zeroed idleDock lent words starred
+unfolding valueAt eachFrom joinFrom dueKeys countOf keyMeets valueMeets faultAt firstFault lengthMeets headMeets boardMeets readHead readBoard readRecords readCosts within hasNext cellOf needOf replicableOf limitOf executionOf internalOf pairPlace pairOf externalOf run gather body transfer response coresOf slowerOf slowestFrom bottleneck memoryFits copiesAllowed tighter limitFrom moduleLimit allows withinLimit moduleRules fewestFrom fewestCores covers eachAllowed keepsRules countFrom moduleCount modulesFrom modulesOf encode figuresOf isBlank isModule blankFault shapeFault firstFailing judgedPlan judgedBytes judged inTurn every scan isBetter bestPlan foundAnswer foundBytes begins bestAnswer bestBytes bit startFrom start give mayTake consider predecessor next greedyFrom greedyPlan startFits greedyOn greedyAnswer greedyBytesOn greedyBytes smallDock fixedDock dockOf zeroed idleDock lent words starred
 each-holds = ((refl, refl), ((refl, refl), ((refl, refl), ((refl, refl), ((refl, refl), ((refl, refl), ((refl, refl), ((refl, refl), (refl, (refl, (refl, tt)))))))))))

@@ -1,4 +1,5 @@
-// The three services for C and Rust callers: Judge, Bench way and Best plan (document 01, "Three services"), under plain names.
+// The services for C and Rust callers, under plain names: Judge, Bench way and Best plan (document 01, "Three services"), and filling in
+// costs from laws (document 02, M-101).
 //
 // A slice crosses as a pointer and a count of elements. No function has a `requires`: each answers for every content and length.
 // include/zombreki.h declares them for C, and says what no proof covers.
@@ -7,7 +8,9 @@ ghost use Prim.Native.Nat.{_<_};
 ghost use Rattle.judge.specs.Judge.{judged};
 ghost use Rattle.greedy.specs.Greedy.{greedyAnswer, greedyBytes};
 ghost use Rattle.planners.specs.Best.{bestAnswer, bestBytes, bestWork};
+ghost use Rattle.fitted.specs.Fill.{fillAnswer, fillBytes};
 ghost use Rattle.zombreki.specs.Exported.{inWords, words};
+use records::Filled;
 
 // A refusal's number (0 for none) and place, or the plan's count of modules, its cores, and of its bottleneck the number of the
 // module, counted from 1, its response and its copies. A refusal has zero figures.
@@ -63,4 +66,13 @@ pub extern "C" fn zombreki_best_plan(costs: &[u8], plan: &mut [u8], work: &mut [
         × (now (work .exit) ≡ bestWork (now (costs .entry)) (now (plan .entry)) (now (work .entry))) ⌝ }
 {
     in_words(planners::best_plan(costs, plan, work))
+}
+
+// Fills in the full set of cost records from a first part and laws.
+#[no_mangle]
+pub extern "C" fn zombreki_fill_costs(head: &[u8], laws: &[u8], out: &mut [u8]) -> Filled
+    ensures { λ r. ⌜ (r ≡ fillAnswer (now (head .entry)) (now (laws .entry)) (now (out .entry)))
+        × (now (out .exit) ≡ fillBytes (now (head .entry)) (now (laws .entry)) (now (out .entry))) ⌝ }
+{
+    fitted::fill_costs(head, laws, out)
 }

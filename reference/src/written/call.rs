@@ -7,7 +7,7 @@ use super::words::{self, matched, number, split_if};
 use crate::every::WORK_WORDS;
 use crate::plan::PLAN_BYTES;
 
-/// How many plan bytes or words are lent, and what each holds.
+/// How many bytes or words are lent, and what each holds.
 #[derive(Clone, Copy, Debug)]
 pub struct Lent<T> {
     pub length: usize,
@@ -103,7 +103,11 @@ fn judged_bytes(text: &str) -> Result<Vec<u8>, String> {
 }
 
 /// `60 bytes of 9`, `16390 words`: what is not said is as in the other.
-fn lent<T: FromStr>(text: Option<&str>, pattern: &str, other: Lent<T>) -> Result<Lent<T>, String> {
+pub fn lent<T: FromStr>(
+    text: Option<&str>,
+    pattern: &str,
+    other: Lent<T>,
+) -> Result<Lent<T>, String> {
     let Some(text) = text else {
         return Ok(other);
     };

@@ -2,19 +2,21 @@
 
 use std::fmt::Debug;
 
-use super::Case;
 use super::call::{Call, Lent, PLAN, WORK};
 use super::due::Due;
+use super::fill;
+use super::laws::Lawful;
+use super::{Costs, Planned};
 use crate::answer::Answer;
-use crate::costs;
 use crate::plan::PLAN_BYTES;
-use crate::services::{LIBRARY, QUICK_REFERENCE, REFERENCE, Services};
+use crate::services::{LIBRARY, Planner, QUICK_REFERENCE, REFERENCE, Services};
+use crate::{costs, laws};
 
 /// The work area of a service that is lent none.
 const NO_WORK: Lent<u32> = Lent { length: 0, ..WORK };
 
 /// What was lent is the middle of something longer, so that a byte or word written beside it shows.
-const MARGIN: usize = 16;
+pub const MARGIN: usize = 16;
 
 /// An answer, with the plan bytes and the work area after it, margins included.
 struct Given {
@@ -24,9 +26,14 @@ struct Given {
 }
 
 /// The library and the second planner give what the text says: the planner that tries all plans where there are not too many,
-/// and the one that searches as the library does.
-pub fn agree(case: &Case) -> Result<(), String> {
-    let few_plans = match costs::read(&case.costs) {
+/// and the one that searches as the library does. Costs that are given as laws are also planned from these, without bytes,
+/// unless the call would try too many plans.
+pub fn agree(case: &Planned) -> Result<(), String> {
+    let chain = match &case.costs {
+        Costs::Records(bytes) => costs::read(bytes),
+        Costs::Laws(Lawful { head, laws }) => laws::chain(head, laws),
+    };
+    let few_plans = match &chain {
         Ok(chain) => chain.tasks <= 5 && chain.cores <= 10,
         Err(_) => true,
     };
@@ -37,35 +44,50 @@ pub fn agree(case: &Case) -> Result<(), String> {
     for (name, services) in providers {
         held(services, case).map_err(|what| format!("the {name}: {what}"))?;
     }
-    Ok(())
+    let tries_all = matches!(case.call, Call::Best { .. } | Call::Read);
+    match chain {
+        Ok(chain) if chain.laws.is_some() && (few_plans || !tries_all) => {
+            served(&chain, case).map_err(|what| format!("from the laws: {what}"))
+        }
+        _ => Ok(()),
+    }
 }
 
-/// One provider gives what the text says.
-pub fn held(services: &Services, case: &Case) -> Result<(), String> {
-    let costs = &case.costs;
+/// One provider gives what the text says; where the costs are laws, on what it fills in from them.
+pub fn held(services: &Services, case: &Planned) -> Result<(), String> {
+    match &case.costs {
+        Costs::Records(costs) => served(&services.on(costs), case),
+        Costs::Laws(lawful) => {
+            let costs = fill::filled_in(services, lawful)?;
+            served(&services.on(&costs), case)
+        }
+    }
+}
+
+/// A planner gives what the text says.
+fn served(planner: &dyn Planner, case: &Planned) -> Result<(), String> {
     match &case.call {
-        Call::Read => read(services, case),
+        Call::Read => read(planner, case),
         Call::Judge { plan } => {
-            let answer = (services.judge)(costs, plan);
+            let answer = planner.judge(plan);
             same("answer", &[answer_due(&case.due)], &[answer])
         }
         Call::Greedy { grouping, plan } => {
-            let given = greedy(services, costs, *grouping, *plan);
+            let given = greedy(planner, *grouping, *plan);
             left(&case.due, *plan, NO_WORK, &given)
         }
         Call::Best { plan, work } => {
-            let given = best(services, costs, *plan, *work);
+            let given = best(planner, *plan, *work);
             left(&case.due, *plan, *work, &given)
         }
     }
 }
 
 /// All three services refuse so, or none refuses the costs.
-fn read(services: &Services, case: &Case) -> Result<(), String> {
-    let costs = &case.costs;
-    let judged = (services.judge)(costs, &[0; PLAN_BYTES]);
-    let greedy = greedy(services, costs, 0, PLAN);
-    let best = best(services, costs, PLAN, WORK);
+fn read(planner: &dyn Planner, case: &Planned) -> Result<(), String> {
+    let judged = planner.judge(&[0; PLAN_BYTES]);
+    let greedy = greedy(planner, 0, PLAN);
+    let best = best(planner, PLAN, WORK);
     let answers = [judged, greedy.answer, best.answer];
     if let Due::Accepted = case.due {
         return match answers.iter().find(|a| (1..=6).contains(&a.refusal)) {
@@ -82,10 +104,10 @@ fn read(services: &Services, case: &Case) -> Result<(), String> {
     left(&case.due, PLAN, WORK, &best)
 }
 
-fn greedy(services: &Services, costs: &[u8], grouping: u16, plan: Lent<u8>) -> Given {
+fn greedy(planner: &dyn Planner, grouping: u16, plan: Lent<u8>) -> Given {
     let mut bytes = lent(plan);
     let lent_bytes = &mut bytes[MARGIN..MARGIN + plan.length];
-    let answer = (services.greedy_plan)(costs, grouping, lent_bytes);
+    let answer = planner.greedy_plan(grouping, lent_bytes);
     Given {
         answer,
         plan: bytes,
@@ -93,11 +115,11 @@ fn greedy(services: &Services, costs: &[u8], grouping: u16, plan: Lent<u8>) -> G
     }
 }
 
-fn best(services: &Services, costs: &[u8], plan: Lent<u8>, work: Lent<u32>) -> Given {
+fn best(planner: &dyn Planner, plan: Lent<u8>, work: Lent<u32>) -> Given {
     let (mut bytes, mut words) = (lent(plan), lent(work));
     let lent_bytes = &mut bytes[MARGIN..MARGIN + plan.length];
     let lent_words = &mut words[MARGIN..MARGIN + work.length];
-    let answer = (services.best_plan)(costs, lent_bytes, lent_words);
+    let answer = planner.best_plan(lent_bytes, lent_words);
     Given {
         answer,
         plan: bytes,
@@ -105,7 +127,7 @@ fn best(services: &Services, costs: &[u8], plan: Lent<u8>, work: Lent<u32>) -> G
     }
 }
 
-fn lent<T: Copy>(lent: Lent<T>) -> Vec<T> {
+pub fn lent<T: Copy>(lent: Lent<T>) -> Vec<T> {
     vec![lent.held; lent.length + 2 * MARGIN]
 }
 
@@ -137,7 +159,7 @@ fn left(due: &Due, plan: Lent<u8>, work: Lent<u32>, given: &Given) -> Result<(),
 }
 
 /// The first place where they differ.
-fn same<T: PartialEq + Debug>(what: &str, due: &[T], found: &[T]) -> Result<(), String> {
+pub fn same<T: PartialEq + Debug>(what: &str, due: &[T], found: &[T]) -> Result<(), String> {
     match (0..due.len()).find(|&i| due[i] != found[i]) {
         None => Ok(()),
         Some(i) => Err(format!(

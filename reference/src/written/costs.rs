@@ -27,16 +27,15 @@ const TASK_BYTES: [(usize, &str, &str); 2] = [
 
 pub fn parse(text: &str) -> Result<Vec<u8>, String> {
     let mut parts = text.split(", ");
-    let mut bytes = named(&mut parts)?;
+    let mut bytes = named(parts.next().unwrap_or(""), &mut parts)?;
     for part in parts {
         change(&mut bytes, part)?;
     }
     Ok(bytes)
 }
 
-/// The file that the first words name; they take the size along where they need one.
-fn named<'a>(parts: &mut impl Iterator<Item = &'a str>) -> Result<Vec<u8>, String> {
-    let name = parts.next().unwrap_or("");
+/// The file of that name, which takes the size along where it needs one.
+pub fn named<'a>(name: &str, parts: &mut impl Iterator<Item = &'a str>) -> Result<Vec<u8>, String> {
     match name {
         "small dock" => fs::read(SMALL_DOCK).map_err(|error| error.to_string()),
         "every cost 0" => Ok(costs::write(&idle(parts)?)),
@@ -101,7 +100,7 @@ fn set_value(bytes: &mut [u8], place: usize, value: u32) {
     bytes[at..at + 4].copy_from_slice(&value.to_le_bytes());
 }
 
-fn change(bytes: &mut Vec<u8>, text: &str) -> Result<(), String> {
+pub fn change(bytes: &mut Vec<u8>, text: &str) -> Result<(), String> {
     if let Some([length]) = matched("cut to # bytes", text) {
         return cut(bytes, length as usize);
     }
@@ -127,7 +126,7 @@ fn change(bytes: &mut Vec<u8>, text: &str) -> Result<(), String> {
     change_values(bytes, text)
 }
 
-fn cut(bytes: &mut Vec<u8>, length: usize) -> Result<(), String> {
+pub fn cut(bytes: &mut Vec<u8>, length: usize) -> Result<(), String> {
     if length > bytes.len() {
         return Err(format!("{} bytes cannot be cut to {length}", bytes.len()));
     }
@@ -135,7 +134,7 @@ fn cut(bytes: &mut Vec<u8>, length: usize) -> Result<(), String> {
     Ok(())
 }
 
-fn set_byte(bytes: &mut [u8], at: usize, value: u32) -> Result<(), String> {
+pub fn set_byte(bytes: &mut [u8], at: usize, value: u32) -> Result<(), String> {
     let value = u8::try_from(value).map_err(|_| format!("{value} is no byte"))?;
     let byte = bytes.get_mut(at).ok_or_else(|| format!("no byte {at}"))?;
     *byte = value;
@@ -176,7 +175,7 @@ fn change_record(bytes: &mut [u8], field: &str, record: &str) -> Result<(), Stri
 }
 
 /// The value of all records with a key, or the values of the first of them.
-fn change_values(bytes: &mut [u8], text: &str) -> Result<(), String> {
+pub fn change_values(bytes: &mut [u8], text: &str) -> Result<(), String> {
     let (key, values) = split(text, " = ")?;
     let found = keyed(bytes, key)?;
     let values = values

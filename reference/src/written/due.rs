@@ -1,6 +1,6 @@
 //! What a case is due.
 
-use super::words::{self, matched, number};
+use super::words::{self, matched, number, split_if};
 use crate::answer::{Answer, Refusal};
 use crate::plan::PLAN_BYTES;
 
@@ -18,21 +18,23 @@ pub fn parse(text: &str) -> Result<Due, String> {
     if text == "accepted" {
         return Ok(Due::Accepted);
     }
-    if let Some([number]) = matched("refusal #", text) {
-        return Ok(Due::Refusal(Refusal::new(number)));
-    }
-    if let Some(rest) = text.strip_prefix("refusal ") {
-        let (refusal, place) = words::split(rest, ", place ")?;
-        return Ok(Due::Refusal(Refusal {
-            number: number(refusal)?,
-            place: number(place)?,
-        }));
+    if let Some(refused) = text.strip_prefix("refusal ") {
+        return Ok(Due::Refusal(refusal(refused)?));
     }
     let Some(rest) = text.strip_prefix("plan ") else {
         return Ok(Due::Figures(figures(text)?));
     };
     let (plan, rest) = words::split(rest, "; ")?;
     Ok(Due::Plan(words::plan(plan)?, figures(rest)?))
+}
+
+/// `9`, or `12, place 2`.
+pub fn refusal(text: &str) -> Result<Refusal, String> {
+    let (refusal, place) = split_if(text, ", place ");
+    Ok(Refusal {
+        number: number(refusal)?,
+        place: place.map_or(Ok(0), number)?,
+    })
 }
 
 fn figures(text: &str) -> Result<Answer, String> {

@@ -1,7 +1,8 @@
 //! The wrong planners: document 01's "Where a plan goes astray", then "Before anyone tests", then mistakes in what is lent, then
-//! those about core limits.
+//! those about core limits; and wrong programs that fill in costs from laws.
 
 mod judges;
+pub mod laws;
 pub mod limits;
 pub mod searches;
 
@@ -55,7 +56,7 @@ const fn in_judge(what: &'static str, judge: fn(&[u8], &[u8]) -> Answer) -> Mist
 }
 
 /// All wrong planners.
-pub fn all() -> impl Iterator<Item = Mistake> {
+pub fn planners() -> impl Iterator<Item = Mistake> {
     MISTAKES.into_iter().chain(limits::MISTAKES)
 }
 

@@ -1,32 +1,26 @@
--- `read` is `readCosts`: the two tests of the length decide which branch is due.
-use borrow.Author.Tests.{eq-eqb, ne-eqb, le-leb, lt-leb}
-use Rattle.records.specs.Costs.{lengthMeets, readCosts}
+-- `read` is `readCosts`: the first record's refusal, or what the count and the walk find for its board, which is in range.
+use borrow.Author.Tests.{eq-eqb, ne-eqb}
 use borrow.Author.Needs.{needs}
+use Rattle.records.specs.Costs.{readCosts}
+use Rattle.records.proofs.Exact.{opens-ranged}
 use Rattle.records.proofs.scan.read.Statement.{statement}
 use Rattle.records.proofs.scan.read.Tie as tie
 
-refuse-requires : tie.Need-refuse-requires
-refuse-requires c κs = search needs
+read-board-requires : tie.Need-read-board-requires
+read-board-requires c κs = search needs
 
 returns : tie.Need-returns
-unfolding lengthMeets readCosts
-returns c = simp (lt-leb _ _ (c .before .if1 .taken)) (c .refuse .ensures)
+unfolding readCosts
+returns c = simp (← (c .before .before .read-board .ensures), ne-eqb _ _ (c .if1 .taken))
 
-refuse-requires-2 : tie.Need-refuse-requires-2
-refuse-requires-2 c κs = search needs
+read-records-requires : tie.Need-read-records-requires
+read-records-requires c κs =
+    let h = opens-ranged _ _ (c .before .before .read-board .ensures) (c .if1 .left) in
+    (h .some-tasks, h .some-cores)
 
 returns-2 : tie.Need-returns-2
-unfolding lengthMeets readCosts
-returns-2 c = simp (le-leb _ _ (c .before .before .if1 .left), ne-eqb _ _ (c .before .if2 .taken)) (c .refuse2 .ensures)
-
-read-head-requires : tie.Need-read-head-requires
-read-head-requires c κs = search needs
-
-returns-3 : tie.Need-returns-3
-unfolding lengthMeets readCosts
-returns-3 c = simp (le-leb _ _ (c .before .before .if1 .left), eq-eqb _ _ (c .before .if2 .left)) (c .read-head .ensures)
+unfolding readCosts
+returns-2 c = simp (← (c .before .before .before .read-board .ensures), eq-eqb _ _ (c .before .if1 .left)) (c .read-records .ensures)
 
 pub read-spec : {M : Type 1} → statement M
-read-spec =
-    tie.close
-    (tie.spec refuse-requires returns refuse-requires-2 returns-2 read-head-requires returns-3)
+read-spec = tie.close (tie.spec read-board-requires returns read-records-requires returns-2)

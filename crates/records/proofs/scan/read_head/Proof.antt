@@ -1,8 +1,6 @@
 -- `read_head` is `readHead`: the first record's bytes and the board's test decide which branch is due.
-use mathlib.Core.Path.{sym, _∙_}
 use borrow.Author.Tests.{eq-eqb, ne-eqb}
 use Rattle.records.specs.Costs.{headMeets, readHead}
-use Rattle.records.proofs.Exact.{meets-ranged}
 use borrow.Author.Needs.{needs}
 use Rattle.records.proofs.scan.read_head.Statement.{statement}
 use Rattle.records.proofs.scan.read_head.Tie as tie
@@ -47,16 +45,13 @@ value-at-requires c κs = search needs
 board-meets-requires : tie.Need-board-meets-requires
 board-meets-requires c κs = search needs
 
-read-records-requires : tie.Need-read-records-requires
-read-records-requires c κs = let h = meets-ranged _ (sym (c .before .board-meets .ensures) ∙ c .if3 .taken) in (h .some-tasks, h .some-cores)
-
 refuse-requires-3 : tie.Need-refuse-requires-3
 refuse-requires-3 c κs = search needs
 
 returns-3 : tie.Need-returns-3
 unfolding headMeets readHead
 returns-3 c =
-    let read = c .before .before .before in
+    let read = c .before .before in
     let second = read .before .before .before in
     let first = second .before .before in
     simp (
@@ -67,10 +62,9 @@ returns-3 c =
       ← (read .before .before .byte-at3 .ensures .0),
       ← (read .before .byte-at4 .ensures .0),
       ← (read .value-at .ensures),
-      ← (c .before .before .board-meets .ensures),
-      c .before .if3 .taken,
+      ← (c .before .board-meets .ensures),
+      c .if3 .taken,
     )
-    (c .read-records .ensures)
 
 returns-4 : tie.Need-returns-4
 unfolding headMeets readHead
@@ -107,7 +101,6 @@ read-head-spec =
     cast-tasks
     value-at-requires
     board-meets-requires
-    read-records-requires
     refuse-requires-3
     returns-3
     returns-4)

@@ -1,0 +1,107 @@
+-- What holds of costs filled in from laws (document 02, M-101): the laws that a reader looks for. The definitions are in specs/Laws,
+-- specs/Fill and specs/Claims. Assumes nothing.
+use mathlib.Core.Path.{_≡_, refl}
+use mathlib.Core.Bool.{true}
+use mathlib.Core.List.{List}
+use mathlib.Core.Logic.{_↔_}
+use Prim.Native.Nat.{ℕ, suc, _+_, _-_, _*_, _≤_, _<_}
+use native.Mathlib.Nat.{suc-mul, div-lt-iff-lt-mul}
+use native.Mathlib.Omega.{arith}
+use lib.ListN.{length, getD, take, drop}
+use Rattle.records.specs.declared.Reading.{Reading}
+use Rattle.records.specs.declared.Filled.{Filled}
+use Rattle.records.specs.Costs.{key, countOf}
+use Rattle.fitted.specs.Laws.{roundedUp, lawAt}
+use Rattle.fitted.specs.Fill.{readFirst, lawByte, coefficient, lawOf, lawCount, lawKeys, lawKey, lawsMeet, valuesMeet, fillAnswer, fillBytes}
+use Rattle.fitted.specs.Claims.{FirstFinds, IsLaws, LawSays, InBounds, Fills, Follows, executionPlace, internalPlace, externalPlace}
+use Rattle.fitted.proofs.Keys as keys
+use Rattle.fitted.proofs.Stated as stated
+use Rattle.fitted.proofs.Bounded as bounded
+use Rattle.fitted.proofs.Begun as begun
+use Rattle.fitted.proofs.Deciding as deciding
+
+-- ---- the laws of document 000, section 5
+
+-- rounded up: the least whole number that, times y, reaches x
+pub rounded-least : (x y n : ℕ) → 1 ≤ y → (roundedUp x y ≤ n) ↔ (x ≤ n * y)
+unfolding roundedUp
+rounded-least x y n h = (
+  λ e. let l = div-lt-iff-lt-mul {k = y} {x = x + (y - 1)} {y = suc n} h .0 (omega arith) in omega (arith, l, suc-mul n y),
+  λ e. let l = div-lt-iff-lt-mul {k = y} {x = x + (y - 1)} {y = suc n} h .1 (omega (arith, suc-mul n y)) in omega (arith, l),
+)
+
+-- what record n of the laws gives, by its form: which coefficient stands where
+module _ (l : List ℕ) (n s q : ℕ) where
+  pub constant-law : lawByte l n 2 ≡ 0 → lawAt (lawOf l n) s q ≡ coefficient l n 1
+  unfolding lawOf lawAt
+  constant-law e = rw e (refl)
+
+  pub three-law : lawByte l n 2 ≡ 1 → lawAt (lawOf l n) s q ≡ coefficient l n 1 + roundedUp (coefficient l n 2) s + coefficient l n 3 * s
+  unfolding lawOf lawAt
+  three-law e = rw e (refl)
+
+  pub five-law : lawByte l n 2 ≡ 2
+      → lawAt (lawOf l n) s q ≡ coefficient l n 1 + roundedUp (coefficient l n 2) s + roundedUp (coefficient l n 3) q + coefficient l n 4 * s + coefficient l n 5 * q
+  unfolding lawOf lawAt
+  five-law e = rw e (refl)
+
+-- ---- the due records of laws, for every k from 1: 3k − 2, and each by its place is the computed one
+
+module _ (k : ℕ) where
+  pub laws-count : length (lawKeys k) ≡ lawCount k
+  laws-count = keys.laws-count k
+
+  pub law-key-at : 1 ≤ k → (n : ℕ) → n < lawCount k → getD (lawKeys k) n (key 0 0 0 0) ≡ lawKey k n
+  law-key-at = keys.law-key-at k
+
+-- ---- what is accepted, each part by itself
+
+-- the first part: refusals 1 to 6 exactly under their conditions, with their places
+pub first-exactly : (s : List ℕ) (r : Reading) → (readFirst s ≡ r) ↔ FirstFinds s r
+first-exactly s r = (λ e. rw e at (begun.finds s), begun.finds-only s r)
+
+module _ (l : List ℕ) (k : ℕ) (some : 1 ≤ k) where
+  -- 17: exactly the laws of a chain of k tasks pass
+  pub laws-exactly : (lawsMeet l k ≡ true) ↔ IsLaws l k
+  laws-exactly = (stated.meets-laws l k some, stated.laws-meet l k some)
+
+  module _ (h : IsLaws l k) where
+    -- one record, and no other, has the kind and task of a cost: the law is its
+    pub execution-law : (t : ℕ) → 1 ≤ t → t ≤ k → LawSays l k 3 t (lawOf l (executionPlace t))
+    execution-law = stated.execution-law l k some h
+
+    pub internal-law : (t : ℕ) → 1 ≤ t → t < k → LawSays l k 4 t (lawOf l (internalPlace k t))
+    internal-law = stated.internal-law l k some h
+
+    pub external-law : (t : ℕ) → 1 ≤ t → t < k → LawSays l k 5 t (lawOf l (externalPlace k t))
+    external-law = stated.external-law l k some h
+
+    -- 18: their values pass exactly if none is above 1,000,000 at any p, or s and q, of the board
+    pub values-exactly : (p : ℕ) → (valuesMeet l p 0 (lawCount k) ≡ true) ↔ InBounds l k p
+    values-exactly p = (bounded.meet-bounds l k p some h, bounded.bounds-meet l k p some h)
+
+-- ---- the service
+
+module _ (head l out : List ℕ) where
+  -- each answer is given exactly under its condition
+  pub fill-exactly : (a : Filled) → (fillAnswer head l out ≡ a) ↔ Fills head l out a
+  fill-exactly a = (λ e. rw e at (deciding.answered head l out), deciding.answered-only head l out a)
+
+  -- a refusal fills in nothing and leaves the output as lent
+  module _ (n : fillAnswer head l out .refusal ≡ 0 → ⊥) where
+    pub refused-empty : fillAnswer head l out .count ≡ 0
+    refused-empty = deciding.refused-empty head l out n
+
+    pub refused-lent : fillBytes head l out ≡ out
+    refused-lent = deciding.refused-lent head l out n
+
+  -- what is filled in is accepted costs of the first part's board, each its law's value; behind it the output is as lent
+  module _ (z : fillAnswer head l out .refusal ≡ 0) where
+    pub fill-follows : Follows (take (fillAnswer head l out .count) (fillBytes head l out)) head l (readFirst head .board)
+    fill-follows = deciding.fill-follows head l out z
+
+    pub fill-beyond : drop (fillAnswer head l out .count) (fillBytes head l out) ≡ drop (fillAnswer head l out .count) out
+    fill-beyond = deciding.fill-beyond head l out z
+
+    pub fill-count : fillAnswer head l out .count ≡ 8 * countOf (readFirst head .board .tasks) (readFirst head .board .cores)
+    fill-count = deciding.fill-count head l out z

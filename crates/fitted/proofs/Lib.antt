@@ -1,0 +1,13 @@
+pub mod Keys
+pub mod Parts
+pub mod Products
+pub mod Stores
+pub mod Walks
+pub mod Stated
+pub mod Dues
+pub mod Answers
+pub mod Begun
+pub mod Bounded
+pub mod Filling
+pub mod Deciding
+pub mod Laws
