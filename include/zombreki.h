@@ -58,7 +58,7 @@ struct zombreki_answer zombreki_greedy_plan(const uint8_t *costs, size_t costs_l
 struct zombreki_answer zombreki_best_plan(const uint8_t *costs, size_t costs_len, uint8_t *plan, size_t plan_len,
                                           uint32_t *work, size_t work_len);
 
-/* What a service that fills an output answers: how many bytes it has filled in, or a refusal's number and place. */
+/* What a service that only fills an output answers: how many bytes it has filled in, or a refusal's number and place. */
 struct zombreki_filled {
     uint32_t refusal; /* 0, or the number of the refusal */
     uint32_t place;   /* the record at fault, counted from 1; 0 where none is named */
@@ -69,7 +69,7 @@ struct zombreki_filled {
  * `laws` has one record of 24 bytes for each cost, 3k - 2 in all: kind 3 for tasks 1 to k, then kind 4 and then kind 5 for tasks 1 to
  * k - 1. Each is kind, task, form, a zero, and C1 to C5 of 32 bits, lowest byte first, unused ones zero:
  *   form 0, any kind       C1
- *   form 1, kinds 3 and 4  C1 + C2/p + C3*p
+ *   form 1, kinds 3 and 4  C1 + C2/p + C3*p on p cores
  *   form 2, kind 5         C1 + C2/s + C3/q + C4*s + C5*q for s sending and q receiving cores
  * Each quotient is rounded up by itself. `out` takes 8 * (1 + k + k*P + (k - 1)*P + (k - 1)*P*P) bytes, 96,104 at most. Refusals, in this
  * order: 1 to 6 on the first part (4: not 1 + k records), 17 (laws of a wrong length, field or form), 18 (a value above 1,000,000), 19

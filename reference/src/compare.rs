@@ -149,6 +149,7 @@ pub fn best_plan(both: &Both, lent: Lent) -> Result<(Answer, Vec<u8>), Differenc
 }
 
 /// The costs filled in from laws, into so many bytes; the answer and the output of both. What is lent for reading stays as it is.
+/// A difference names the first part of the answer in which it shows, or else the output.
 pub fn fill_costs(
     expected: &Services,
     found: &Services,
@@ -156,17 +157,22 @@ pub fn fill_costs(
     room: usize,
     seed: u64,
 ) -> Result<(Filled, Vec<u8>), Difference> {
-    let service = "fill costs";
     let mut out = dirty_bytes(room, seed);
     let mut found_out = out.clone();
     let (found_head, found_laws) = (head.to_vec(), laws.to_vec());
     let filled = (expected.fill_costs)(head, laws, lent_in(room, &mut out));
     let found_filled = (found.fill_costs)(&found_head, &found_laws, lent_in(room, &mut found_out));
     let name = |what: &str| format!("{what}, with {room} bytes lent");
-    expect_same(service, &[filled], &[found_filled], || name("answer"))?;
-    expect_same(service, &out, &found_out, || name(OUT_NAME))?;
-    expect_same(service, head, &found_head, || name("first part"))?;
-    expect_same(service, laws, &found_laws, || name("laws"))?;
+    for (service, due, given) in [
+        ("fill costs: refusal", filled.refusal, found_filled.refusal),
+        ("fill costs: place", filled.place, found_filled.place),
+        ("fill costs: count", filled.count, found_filled.count),
+    ] {
+        expect_same(service, &[due], &[given], || name("answer"))?;
+    }
+    expect_same("fill costs: output", &out, &found_out, || name(OUT_NAME))?;
+    expect_same("fill costs", head, &found_head, || name("first part"))?;
+    expect_same("fill costs", laws, &found_laws, || name("laws"))?;
     Ok((filled, lent_in(room, &mut out).to_vec()))
 }
 

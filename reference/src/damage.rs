@@ -66,12 +66,11 @@ fn apply(bytes: &mut Vec<u8>, damage: Damage, random: &mut Random) {
         Damage::Extended => extend(bytes, random),
         Damage::SwappedRecords => {
             let (i, j) = (random.below(records), random.below(records));
-            swap_records(bytes, i, j);
+            swap_records(bytes, RECORD_BYTES, i, j);
         }
         Damage::RepeatedRecord => {
             let (from, to) = (random.below(records), random.below(records));
-            let record = from * RECORD_BYTES..(from + 1) * RECORD_BYTES;
-            bytes.copy_within(record, to * RECORD_BYTES);
+            copy_record(bytes, RECORD_BYTES, from, to);
         }
         Damage::OutOfRange => set_out_of_range(bytes, records, random),
         Damage::OtherLimit => set_limit(bytes, records, random),
@@ -112,10 +111,16 @@ fn extend(bytes: &mut Vec<u8>, random: &mut Random) {
     }
 }
 
-fn swap_records(bytes: &mut [u8], i: usize, j: usize) {
-    for byte in 0..RECORD_BYTES {
-        bytes.swap(i * RECORD_BYTES + byte, j * RECORD_BYTES + byte);
+/// Two records of so many bytes, counted from 0.
+fn swap_records(bytes: &mut [u8], size: usize, i: usize, j: usize) {
+    for byte in 0..size {
+        bytes.swap(i * size + byte, j * size + byte);
     }
+}
+
+/// One record over another one.
+fn copy_record(bytes: &mut [u8], size: usize, from: usize, to: usize) {
+    bytes.copy_within(from * size..(from + 1) * size, to * size);
 }
 
 fn set_out_of_range(bytes: &mut [u8], records: usize, random: &mut Random) {

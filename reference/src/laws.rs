@@ -151,7 +151,11 @@ pub struct Entry {
 }
 
 /// All cost records behind those of the tasks, in their order, with any way to evaluate a law.
-fn entries(value: impl Fn(&Law, usize, usize) -> u64, chain: &Chain, laws: &Laws) -> Vec<Entry> {
+pub fn entries(
+    value: impl Fn(&Law, usize, usize) -> u64,
+    chain: &Chain,
+    laws: &Laws,
+) -> Vec<Entry> {
     let entry = |key: Key| {
         let law = laws.of(key.kind, key.task.into());
         // the same p cores on both sides, but for an external transfer

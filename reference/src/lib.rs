@@ -2,8 +2,8 @@
 //! against.
 //!
 //! `costs`, `plan`, `judge`, `greedy`, `every` and `laws` say what the services answer, in the most obvious way; `every` tries
-//! all plans. `threshold` is the library's own algorithm in Rust and `paper` the dynamic program of source document 000.
-//! `cases` and `damage` make files and laws from seeds; `compare` and `round` tell two providers of the services apart.
+//! all plans. `threshold` and `filling` are the library's own ways in Rust and `paper` the dynamic program of source document
+//! 000. `cases` and `damage` make files and laws from seeds; `compare` and `round` tell two providers of the services apart.
 //! `written` reads the cases that are written as text.
 
 pub mod answer;
@@ -12,6 +12,7 @@ pub mod compare;
 pub mod costs;
 pub mod damage;
 pub mod every;
+pub mod filling;
 pub mod greedy;
 pub mod judge;
 pub mod laws;

@@ -1,16 +1,17 @@
 //! The benchmark: `cargo run --release`. Times Best plan of the static library beside the same search in Rust, the dynamic
-//! program of source document 000 and, where the file is small, trying all plans; and filling in costs from laws.
+//! program of source document 000 and, where the file is small, trying all plans; and filling in costs from laws beside the
+//! same in Rust.
 
 use std::hint::black_box;
 use std::time::Instant;
 
 use reference::answer::Filled;
-use reference::cases::laws::LawKind;
 use reference::cases::{self, Kind};
-use reference::costs::{self, Chain};
+use reference::costs::{self, Chain, MOST_CORES, MOST_TASKS, RECORD_BYTES};
 use reference::every::{self, WORK_WORDS};
+use reference::laws::{Law, Laws};
 use reference::plan::PLAN_BYTES;
-use reference::{laws, library, paper, threshold};
+use reference::{filling, library, paper, threshold};
 
 const RUNS: usize = 11;
 
@@ -99,24 +100,42 @@ fn print_rows(tasks: usize, cores: usize, searches: &[Search]) {
 /// One way to fill in costs from laws (document 02, M-101).
 type Fill = fn(&[u8], &[u8], &mut [u8]) -> Filled;
 
-/// Filling in the costs of the largest board from laws with terms, by the library and in Rust.
+/// A run fills in so often, since once takes a fraction of a millisecond.
+const FILLINGS: usize = 100;
+
+/// The first part of the largest board, and laws that all have terms, with no coefficient 0.
+fn laws_with_terms() -> (Vec<u8>, Vec<u8>) {
+    let mut head = costs::write(&cases::constant(MOST_TASKS, MOST_CORES, 0));
+    head.truncate((1 + MOST_TASKS) * RECORD_BYTES);
+    let tasks = MOST_TASKS as u32;
+    let three = |t| Law::Three([100 * t, 30_000 * t, 50 * t]);
+    let five = |t| Law::Five([10 * t, 3_000 * t, 2_000 * t, 5 * t, 7 * t]);
+    let laws = Laws {
+        executions: (1..=tasks).map(three).collect(),
+        internals: (1..tasks).map(three).collect(),
+        externals: (1..tasks).map(five).collect(),
+    };
+    (head, laws.write())
+}
+
+/// Filling in the costs of the largest board from laws with terms, by the library and the same way in Rust.
 fn print_filling() {
-    let case = cases::laws::sized(LawKind::Realistic, 12, 32, 7);
+    let (head, laws) = laws_with_terms();
     let run = |fill: Fill| -> Box<dyn FnMut()> {
-        let (case, mut out) = (case.clone(), vec![0; costs::LARGEST]);
+        let (head, laws) = (head.clone(), laws.clone());
+        let mut out = vec![0; costs::LARGEST];
         Box::new(move || {
-            let filled = fill(black_box(&case.head), black_box(&case.laws), &mut out);
-            assert_eq!(black_box(filled).refusal, 0);
+            for _ in 0..FILLINGS {
+                let filled = fill(black_box(&head), black_box(&laws), &mut out);
+                assert_eq!(black_box(filled).refusal, 0);
+            }
         })
     };
-    let times = medians(&mut [run(library::fill_costs), run(laws::fill_costs)]);
-    let [library, rust] = times[..] else {
-        unreachable!("two ways to fill in");
-    };
+    let times = medians(&mut [run(library::fill_costs), run(filling::fill_costs)]);
+    let [library, rust] = [0, 1].map(|i| times[i] / FILLINGS as f64);
     let ratio = library / rust;
-    println!(
-        "\nFilling in from laws, 12 tasks, 32 cores: library {library:.3}, in Rust {rust:.3}, ratio {ratio:.2}"
-    );
+    println!("\nFilling in from laws with terms, 12 tasks, 32 cores:");
+    println!("library {library:.3}, the same in Rust {rust:.3}, ratio {ratio:.2}");
 }
 
 const NOTES: &str = "\

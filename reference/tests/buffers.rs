@@ -1,10 +1,12 @@
 //! What is lent: too little, enough, more; dirty; at any address; empty. Bytes and words beside it stay as they are.
 
+use reference::cases::laws::{self, LawCase, LawKind};
 use reference::cases::{self, Case, Kind};
 use reference::compare::{self, Both, Lent};
 use reference::costs;
 use reference::every::WORK_WORDS;
 use reference::plan::PLAN_BYTES;
+use reference::round::laws::full_bytes;
 use reference::services::{LIBRARY, QUICK_REFERENCE, REFERENCE};
 
 /// Files that end in a plan, in refusal 9 and 11, and in refusals 1 and 6.
@@ -80,14 +82,25 @@ fn judge_reads_48_bytes() {
     }
 }
 
+/// How many bytes stand behind those that are placed.
+const BEHIND: usize = 8;
+
+/// The bytes from `start` on in something longer.
+fn placed(start: usize, bytes: &[u8]) -> Vec<u8> {
+    [&vec![7; start], bytes, &[7; BEHIND]].concat()
+}
+
+fn lent_at(start: usize, longer: &mut [u8]) -> &mut [u8] {
+    let end = longer.len() - BEHIND;
+    &mut longer[start..end]
+}
+
 #[test]
 fn costs_at_every_address() {
     for case in files() {
         for start in 0..16 {
-            let mut longer = vec![7; start];
-            longer.extend(&case.costs);
-            longer.extend([7; 8]);
-            let costs = &longer[start..start + case.costs.len()];
+            let mut longer = placed(start, &case.costs);
+            let costs = &*lent_at(start, &mut longer);
             let both = Both::on(&REFERENCE, &LIBRARY, costs);
             let lent = Lent::enough(start as u64);
             if let Err(difference) = compare::best_plan(&both, lent) {
@@ -114,5 +127,77 @@ fn same_answer_again() {
     let both = Both::on(&QUICK_REFERENCE, &LIBRARY, &case.costs);
     if let Err(difference) = compare::best_plan(&both, Lent::enough(3)) {
         compare::fail(case.seed, &case.costs, &difference);
+    }
+}
+
+/// First parts and laws that are filled in, and some that end in refusals 18, 17, 6 and 1.
+fn law_files() -> Vec<LawCase> {
+    let kinds = [
+        LawKind::Realistic,
+        LawKind::Constant,
+        LawKind::Brim,
+        LawKind::Above,
+    ];
+    let mut files: Vec<LawCase> = kinds
+        .into_iter()
+        .map(|kind| laws::sized(kind, 3, 6, 1))
+        .collect();
+    files.push(laws::sized(LawKind::Few, 1, 1, 1));
+    for change in [
+        |case: &mut LawCase| case.laws[3] = 1,
+        |case: &mut LawCase| case.head[10] = 2,
+        |case: &mut LawCase| case.head.truncate(7),
+        |case: &mut LawCase| case.head.clear(),
+    ] {
+        let mut case = laws::sized(LawKind::Few, 2, 4, 1);
+        change(&mut case);
+        files.push(case);
+    }
+    let refusal = |case: &LawCase| {
+        let mut out = vec![0; full_bytes(&case.head)];
+        (REFERENCE.fill_costs)(&case.head, &case.laws, &mut out).refusal
+    };
+    let refusals: Vec<u32> = files.iter().map(refusal).collect();
+    assert_eq!(refusals, [0, 0, 0, 18, 0, 17, 6, 1, 1]);
+    files
+}
+
+/// Outputs that are too short, just enough and longer, with other bytes in them each time.
+#[test]
+fn outputs_of_every_length() {
+    for case in law_files() {
+        let due = full_bytes(&case.head);
+        let lengths = [0, 1, 7, 8, due / 2, due - 8, due - 1, due, due + 1, due + 8];
+        for room in lengths.into_iter().chain([due + 4_096]) {
+            for seed in 0..8 {
+                let lent = (&case.head[..], &case.laws[..]);
+                let result = compare::fill_costs(&REFERENCE, &LIBRARY, lent, room, seed);
+                if let Err(difference) = result {
+                    compare::fail(seed, &[lent.0, lent.1].concat(), &difference);
+                }
+            }
+        }
+    }
+}
+
+/// First part, laws and output, each at every address, with just enough room and with one byte less.
+#[test]
+fn laws_at_every_address() {
+    for case in law_files() {
+        let due = full_bytes(&case.head);
+        for (at, room) in (0..16).flat_map(|at| [(at, due), (at, due - 1)]) {
+            let (laws_at, out_at) = (at + 5, at + 11);
+            let mut head = placed(at, &case.head);
+            let mut laws = placed(laws_at, &case.laws);
+            let mut out = placed(out_at, &vec![9; room]);
+            let mut expected = out.clone();
+            let lent = (lent_at(at, &mut head), lent_at(laws_at, &mut laws));
+            let found = (LIBRARY.fill_costs)(lent.0, lent.1, lent_at(out_at, &mut out));
+            let room = lent_at(out_at, &mut expected);
+            let answer = (REFERENCE.fill_costs)(&case.head, &case.laws, room);
+            assert_eq!((found, out), (answer, expected));
+            assert_eq!(head, placed(at, &case.head));
+            assert_eq!(laws, placed(laws_at, &case.laws));
+        }
     }
 }

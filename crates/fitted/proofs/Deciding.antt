@@ -152,6 +152,12 @@ module _ (head l out : List ℕ) where
     count-of : fillAnswer head l out .count ≡ 8 * countOf (readFirst head .board .tasks) (readFirst head .board .cores)
     count-of = rw (f .answer, f .reads-as) (refl)
 
+    first-of : IsFirst head (readFirst head .board)
+    first-of = rw (f .reads-as) (f .first-part)
+
+    laws-of : IsLaws l (readFirst head .board .tasks)
+    laws-of = rw (f .reads-as) (f .laws)
+
   module _ (z : fillAnswer head l out .refusal ≡ 0) where
     some-board : (b : Board) × Found b
     some-board = found-of (fillAnswer head l out) answered refl z
@@ -164,3 +170,9 @@ module _ (head l out : List ℕ) where
 
     pub fill-count : fillAnswer head l out .count ≡ 8 * countOf (readFirst head .board .tasks) (readFirst head .board .cores)
     fill-count = count-of (some-board .0) (some-board .1)
+
+    pub fill-first : IsFirst head (readFirst head .board)
+    fill-first = first-of (some-board .0) (some-board .1)
+
+    pub fill-laws : IsLaws l (readFirst head .board .tasks)
+    fill-laws = laws-of (some-board .0) (some-board .1)

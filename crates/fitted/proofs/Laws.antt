@@ -13,7 +13,7 @@ use Rattle.records.specs.declared.Filled.{Filled}
 use Rattle.records.specs.Costs.{key, countOf}
 use Rattle.fitted.specs.Laws.{roundedUp, lawAt}
 use Rattle.fitted.specs.Fill.{readFirst, lawByte, coefficient, lawOf, lawCount, lawKeys, lawKey, lawsMeet, valuesMeet, fillAnswer, fillBytes}
-use Rattle.fitted.specs.Claims.{FirstFinds, IsLaws, LawSays, InBounds, Fills, Follows, executionPlace, internalPlace, externalPlace}
+use Rattle.fitted.specs.Claims.{IsFirst, FirstFinds, IsLaws, LawSays, InBounds, Fills, Follows, executionPlace, internalPlace, externalPlace}
 use Rattle.fitted.proofs.Keys as keys
 use Rattle.fitted.proofs.Stated as stated
 use Rattle.fitted.proofs.Bounded as bounded
@@ -95,8 +95,16 @@ module _ (head l out : List ℕ) where
     pub refused-lent : fillBytes head l out ≡ out
     refused-lent = deciding.refused-lent head l out n
 
-  -- what is filled in is accepted costs of the first part's board, each its law's value; behind it the output is as lent
+  -- what is filled in has a first part and a law for each cost of its chain; it is accepted costs of that board, each its law's value;
+  -- behind it the output is as lent
   module _ (z : fillAnswer head l out .refusal ≡ 0) where
+    -- so a law's value is spelt out in one record's coefficients by `execution-law` and the like, then `three-law` and the like
+    pub fill-first : IsFirst head (readFirst head .board)
+    fill-first = deciding.fill-first head l out z
+
+    pub fill-laws : IsLaws l (readFirst head .board .tasks)
+    fill-laws = deciding.fill-laws head l out z
+
     pub fill-follows : Follows (take (fillAnswer head l out .count) (fillBytes head l out)) head l (readFirst head .board)
     fill-follows = deciding.fill-follows head l out z
 

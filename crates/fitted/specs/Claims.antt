@@ -17,7 +17,7 @@ use Rattle.fitted.specs.Fill.{lawByte, coefficient, lawOf, lawCount}
 
 -- ---- the first part
 
--- the tasks' records up to n bear their keys and are in range
+-- the tasks' records below n bear their keys and are in range
 abbrev pub TasksBelow : List ℕ → ℕ → Type 0
 TasksBelow s n = (i : ℕ) → 1 ≤ i → i < n → Bears s i (key 2 i 0 0) × InRange s i (key 2 i 0 0)
 

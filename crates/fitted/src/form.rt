@@ -20,7 +20,7 @@ pub(crate) const EXTERNAL: u32 = 5;
 // Record size in bytes.
 const RECORD: u32 = 24;
 
-// Byte i.
+// Byte i of the laws.
 fn byte(laws: &[u8], i: u32) -> u32
     ensures { λ r. ⌜ (r ≡ getD (now (laws .entry)) i 0) × (r < 256) ⌝ }
 {

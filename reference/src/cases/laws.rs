@@ -1,5 +1,6 @@
 //! First parts and laws from seeds, in kinds that each press on one part of document 02's M-101.
 
+use super::times::Terms;
 use super::{KINDS, Kind, chain, small_size};
 use crate::costs::{self, MOST_VALUE, RECORD_BYTES};
 use crate::laws::{Law, Laws};
@@ -17,7 +18,8 @@ pub enum LawKind {
     Remainders,
     /// The greatest values are exactly 1,000,000, or a little less.
     Brim,
-    /// One law comes to 1,000,001 at one end of the cores.
+    /// One law's greatest value is 1,000,001: a constant has it at all cores, terms often at one end of them alone, or at one
+    /// corner where there are two sides.
     Above,
     /// One coefficient is far too great.
     Huge,
@@ -97,33 +99,23 @@ struct Draw {
     random: Random,
 }
 
-/// The coefficients of one law, whatever its terms: fixed ticks, parallel work and overhead, the latter two for each side.
-struct Terms {
-    fixed: u32,
-    parallel: [u32; 2],
-    overhead: [u32; 2],
+/// The law of an execution or of a transfer on the same cores: there is one side.
+fn three([side, _]: [Terms; 2]) -> Law {
+    Law::Three([side.fixed, side.parallel, side.overhead])
 }
 
-fn three(terms: Terms) -> Law {
-    Law::Three([terms.fixed, terms.parallel[0], terms.overhead[0]])
-}
-
-fn five(terms: Terms) -> Law {
-    let ([c2, c3], [c4, c5]) = (terms.parallel, terms.overhead);
-    Law::Five([terms.fixed, c2, c3, c4, c5])
+/// The law of a transfer from one side to the other.
+fn five([s, q]: [Terms; 2]) -> Law {
+    let fixed = s.fixed + q.fixed;
+    Law::Five([fixed, s.parallel, q.parallel, s.overhead, q.overhead])
 }
 
 impl Draw {
-    fn law(&mut self, with_terms: fn(Terms) -> Law) -> Law {
-        let terms = Terms {
-            fixed: self.fixed(),
-            parallel: [self.parallel(), self.parallel()],
-            overhead: [self.overhead(), self.overhead()],
-        };
-        let law = if self.kind == LawKind::Constant || self.random.once_in(4) {
-            Law::Constant(terms.fixed)
-        } else {
-            with_terms(terms)
+    fn law(&mut self, with_terms: fn([Terms; 2]) -> Law) -> Law {
+        let law = match self.kind {
+            LawKind::Constant => Law::Constant(self.random.value(self.work)),
+            _ if self.random.once_in(4) => Law::Constant(self.side().fixed),
+            _ => with_terms([self.side(), self.side()]),
         };
         if self.kind == LawKind::Brim {
             let below = self.random.pick(&[0, 0, 1, 100]);
@@ -132,68 +124,77 @@ impl Draw {
         law
     }
 
-    fn fixed(&mut self) -> u32 {
-        let most = match self.kind {
-            LawKind::Constant => self.work,
-            LawKind::Few | LawKind::Remainders => 3,
-            _ => self.work / 50,
+    /// The terms of one side, now and then without work to share or without overhead.
+    fn side(&mut self) -> Terms {
+        let (cores, random) = (self.cores as u32, &mut self.random);
+        let mut terms = match self.kind {
+            LawKind::Few => Terms {
+                fixed: random.value(3),
+                parallel: random.value(cores + 1),
+                overhead: random.value(2),
+            },
+            LawKind::Remainders => Terms {
+                fixed: random.value(3),
+                parallel: near_a_multiple(cores, random),
+                overhead: random.value(2),
+            },
+            _ => Terms::realistic(self.work, random),
         };
-        self.random.value(most)
-    }
-
-    fn parallel(&mut self) -> u32 {
-        match self.kind {
-            _ if self.random.once_in(5) => 0,
-            LawKind::Few => self.random.value(self.cores as u32 + 1),
-            LawKind::Remainders => {
-                let multiple = self.random.within(1, self.cores) as u32 * self.random.value(300);
-                (multiple + self.random.pick(&[0, 1, 2])).saturating_sub(self.random.value(1))
-            }
-            _ => self.work / 4 + self.random.value(self.work / 4),
+        if random.once_in(5) {
+            terms.parallel = 0;
         }
-    }
-
-    fn overhead(&mut self) -> u32 {
-        match self.kind {
-            _ if self.random.once_in(3) => 0,
-            LawKind::Few | LawKind::Remainders => self.random.value(2),
-            _ => self.random.value(self.work / 200 + 1),
+        if random.once_in(3) {
+            terms.overhead = 0;
         }
+        terms
     }
 
-    /// Makes one law say too much, in the kinds that are named for this.
+    /// Makes one law say too much, in the kinds that are named for this. Half of the time it is an external one, if there are
+    /// any: these have four corners, the others two ends.
     fn spoil_one(&mut self, laws: &mut Laws) {
-        let tasks = laws.executions.len();
-        let others = laws.internals.iter_mut().chain(&mut laws.externals);
-        let mut all: Vec<&mut Law> = laws.executions.iter_mut().chain(others).collect();
-        let i = self.random.below(all.len());
-        let is_external = i >= 2 * tasks - 1;
-        let law = &mut *all[i];
-        *law = match self.kind {
-            LawKind::Above => raised(self.with_one_term(*law), self.cores, MOST_VALUE + 1),
-            LawKind::Huge => self.with_huge_coefficient(*law),
-            LawKind::Wrapping => self.wrapped(is_external),
-            _ => *law,
+        let kind = match laws.externals.len() {
+            0 => 3,
+            _ => self.random.pick(&[3, 4, 5, 5]),
+        };
+        let laws = match kind {
+            3 => &mut laws.executions,
+            4 => &mut laws.internals,
+            _ => &mut laws.externals,
+        };
+        let i = self.random.below(laws.len());
+        laws[i] = match self.kind {
+            LawKind::Above => raised(self.with_some_terms(laws[i]), self.cores, MOST_VALUE + 1),
+            LawKind::Huge => self.with_huge_coefficient(laws[i]),
+            LawKind::Wrapping => self.wrapped(kind == 5),
+            _ => laws[i],
         };
     }
 
-    /// Falls with s or q, or rises: at its greatest with one core or with all of them. A constant stays one.
-    fn with_one_term(&mut self, law: Law) -> Law {
-        let coefficient = 2 + self.random.value(1_000);
+    /// Some of the terms that it may have, at least one. A constant stays one.
+    fn with_some_terms(&mut self, law: Law) -> Law {
         match law {
             Law::Constant(_) => law,
             Law::Three(_) => {
-                let mut coefficients = [0; 3];
-                coefficients[self.random.within(1, 2)] = coefficient;
-                Law::Three(coefficients)
+                let [c2, c3] = self.some_terms();
+                Law::Three([0, c2, c3])
             }
             Law::Five(_) => {
-                let mut coefficients = [0; 5];
-                coefficients[self.random.within(1, 2)] = coefficient;
-                coefficients[self.random.within(3, 4)] = coefficient;
-                Law::Five(coefficients)
+                let [c2, c3, c4, c5] = self.some_terms();
+                Law::Five([0, c2, c3, c4, c5])
             }
         }
+    }
+
+    /// Coefficients from C2 on, 0 for a term left out. The first half falls with the cores and the other rises; where one side
+    /// has both, either may be the steeper.
+    fn some_terms<const TERMS: usize>(&mut self) -> [u32; TERMS] {
+        let chosen = self.random.within(1, (1 << TERMS) - 1);
+        let cores = self.cores as u32;
+        std::array::from_fn(|i| {
+            let most = if i < TERMS / 2 { 1_000 * cores } else { 1_000 };
+            let coefficient = 2 + self.random.value(most);
+            if chosen >> i & 1 == 1 { coefficient } else { 0 }
+        })
     }
 
     fn with_huge_coefficient(&mut self, mut law: Law) -> Law {
@@ -221,6 +222,12 @@ impl Draw {
         }
         Law::Three([fixed, parallel, overhead])
     }
+}
+
+/// A multiple of some count of cores, or one or two beside one.
+fn near_a_multiple(cores: u32, random: &mut Random) -> u32 {
+    let multiple = (1 + random.value(cores - 1)) * random.value(300);
+    (multiple + random.pick(&[0, 1, 2])).saturating_sub(random.value(1))
 }
 
 /// The law with another C1, so that its greatest value is this one, if its terms leave room for that.

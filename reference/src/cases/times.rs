@@ -37,34 +37,50 @@ fn drawn(kind: Kind, scale: u32, cores: usize, random: &mut Random) -> u32 {
     }
 }
 
-/// Source document 000, 5: fixed + parallel ÷ p + overhead · p for a task, and likewise with the cores of both sides for an
-/// external transfer, which costs a tenth of a task.
+/// What source document 000, 5, adds up: fixed ticks, work that p cores share, and overhead of each core.
+pub struct Terms {
+    pub fixed: u32,
+    pub parallel: u32,
+    pub overhead: u32,
+}
+
+impl Terms {
+    /// For a task that takes some `work` on one core.
+    pub fn realistic(work: u32, random: &mut Random) -> Terms {
+        Terms {
+            fixed: random.value(work / 50),
+            parallel: work / 4 + random.value(work * 3 / 4),
+            overhead: random.value(work / 200 + 1),
+        }
+    }
+
+    /// The ticks at p cores; what does not divide is dropped.
+    fn at(&self, p: u32) -> u32 {
+        self.fixed + self.parallel / p + self.overhead * p
+    }
+}
+
+/// Terms for each task and transfer, for an external transfer those of both sides, which cost a tenth of a task together.
 pub fn set_realistic(chain: &mut Chain, random: &mut Random) {
     let work = random.pick(&[100, 10_000, 400_000]);
     let cores = chain.cores as u32;
     for times in chain.executions.chunks_exact_mut(chain.cores) {
-        let law = law(work, random);
-        (1..=cores).for_each(|p| times[p as usize - 1] = law(p));
+        let terms = Terms::realistic(work, random);
+        (1..=cores).for_each(|p| times[p as usize - 1] = terms.at(p));
     }
     for times in chain.internals.chunks_exact_mut(chain.cores) {
-        let law = law(work / 20, random);
-        (1..=cores).for_each(|p| times[p as usize - 1] = law(p));
+        let terms = Terms::realistic(work / 20, random);
+        (1..=cores).for_each(|p| times[p as usize - 1] = terms.at(p));
     }
     for times in chain.externals.chunks_exact_mut(chain.cores * chain.cores) {
-        let (sender, receiver) = (law(work / 20, random), law(work / 20, random));
+        let sender = Terms::realistic(work / 20, random);
+        let receiver = Terms::realistic(work / 20, random);
         for s in 1..=cores {
             for q in 1..=cores {
-                times[((s - 1) * cores + q - 1) as usize] = sender(s) + receiver(q);
+                times[((s - 1) * cores + q - 1) as usize] = sender.at(s) + receiver.at(q);
             }
         }
     }
-}
-
-fn law(work: u32, random: &mut Random) -> impl Fn(u32) -> u32 + use<> {
-    let fixed = random.value(work / 50);
-    let parallel = work / 4 + random.value(work * 3 / 4);
-    let overhead = random.value(work / 200 + 1);
-    move |p| fixed + parallel / p + overhead * p
 }
 
 /// All times are the greatest but for those that one plan, within the board's cores, has.

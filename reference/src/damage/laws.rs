@@ -70,9 +70,11 @@ fn apply(case: &mut LawCase, damage: LawDamage, random: &mut Random) {
             let i = random.below(laws.len());
             laws[i] = random.pick(&[0, 1, 2, 3, 128, 255]);
         }
-        LawDamage::SwappedRecords | LawDamage::RepeatedRecord => {
-            let other = random.below(records);
-            copy_record(laws, record, other, damage == LawDamage::SwappedRecords);
+        LawDamage::SwappedRecords => {
+            super::swap_records(laws, LAW_BYTES, record, random.below(records));
+        }
+        LawDamage::RepeatedRecord => {
+            super::copy_record(laws, LAW_BYTES, record, random.below(records));
         }
         _ => spoil(&mut laws[record * LAW_BYTES..][..LAW_BYTES], damage, random),
     }
@@ -122,20 +124,11 @@ fn change_length(laws: &mut Vec<u8>, random: &mut Random) {
         length + 1,
         length + LAW_BYTES,
         length + 2 * LAW_BYTES,
+        // the same to whoever counts in 8 or 16 bits
+        length + (1 << 8),
+        length + (1 << 16),
     ]);
     laws.resize(other, 0);
-}
-
-/// One record over the other one, which takes its place if they are swapped.
-fn copy_record(laws: &mut [u8], from: usize, to: usize, swapped: bool) {
-    for i in 0..LAW_BYTES {
-        let (from, to) = (from * LAW_BYTES + i, to * LAW_BYTES + i);
-        let byte = laws[to];
-        laws[to] = laws[from];
-        if swapped {
-            laws[from] = byte;
-        }
-    }
 }
 
 /// The first part with all other records behind it, as `judge` takes it, if it is an accepted one.

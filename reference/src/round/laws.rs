@@ -25,24 +25,26 @@ pub fn full_bytes(head: &[u8]) -> usize {
     }
 }
 
-/// Fills in as many bytes as are due, or some more, or too few; the bytes, if they were filled in.
-pub fn filled(
+/// Sets the random numbers of the room apart from those of the laws and of a damage, which have the same seed.
+const OF_ROOM: u64 = 1 << 32;
+
+/// Fills in as many bytes as are due, or some more, or too few; the answer, and the bytes that it counts.
+pub fn answered(
     expected: &Services,
     found: &Services,
     case: &LawCase,
-    tally: &mut Tally,
-) -> Result<Option<Vec<u8>>, Difference> {
-    let mut random = Random::new(!case.seed);
+) -> Result<(Filled, Vec<u8>), Difference> {
+    let mut random = Random::new(case.seed ^ OF_ROOM);
     let due = full_bytes(&case.head);
     let room = random.pick(&[due, due, due, due + 1, due + 100, due - 1, due - 8, 0]);
     let lent = (&case.head[..], &case.laws[..]);
     let (answer, mut out) = compare::fill_costs(expected, found, lent, room, case.seed)?;
-    tally.add(named(answer));
     out.truncate(answer.count as usize);
-    Ok((answer.refusal == 0).then_some(out))
+    Ok((answer, out))
 }
 
-fn named(answer: Filled) -> String {
+/// How an answer is counted.
+pub fn named(answer: Filled) -> String {
     match answer.refusal {
         0 => "fill costs: filled in".to_string(),
         number => format!("fill costs: refusal {number}"),

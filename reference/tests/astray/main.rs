@@ -6,21 +6,22 @@ mod mistakes;
 use mistakes::laws::{bounds, values};
 use mistakes::limits::walks;
 use mistakes::{Mistake, laws, searches};
-use reference::cases::laws as law_cases;
+use reference::cases::laws::{self as law_cases, LawCase};
 use reference::cases::{self, Kind};
-use reference::compare::{self, Both, Lent};
-use reference::costs;
+use reference::compare::{self, Both, Difference, Lent};
+use reference::costs::{self, Chain};
 use reference::damage::laws::{self as law_damage, LAW_DAMAGES};
 use reference::damage::{self, DAMAGES};
 use reference::every;
-use reference::plan;
+use reference::plan::{self, Module};
 use reference::round;
-use reference::services::{REFERENCE, Services};
+use reference::services::{LIBRARY, REFERENCE, Services};
 use reference::tally::Tally;
-use reference::written;
+use reference::written::{self, Line};
 
-/// As many of the files of tests/small.rs as any mistake needs.
+/// As many files and as many laws, from seeds, as any mistake needs.
 const FILES: u64 = 900;
+const LAWS: u64 = 6_000;
 
 /// The service in which the first difference shows, and the file's seed: on accepted files, or else on damaged ones.
 fn first_difference(found: &Services) -> Option<(&'static str, u64)> {
@@ -42,95 +43,132 @@ fn first_difference(found: &Services) -> Option<(&'static str, u64)> {
     })
 }
 
-/// The same of what is filled in from laws, accepted ones or else damaged ones.
-fn first_difference_of_laws(found: &Services) -> Option<(&'static str, u64)> {
-    let accepted = (0..FILES).map(law_cases::small);
-    let damaged = (0..FILES).map(|seed| {
+/// Small laws as they are made, three kinds in eight to be refused with 18; then damaged ones.
+fn small_laws() -> Vec<LawCase> {
+    let made = (0..LAWS).map(law_cases::small);
+    let damaged = (0..LAWS).map(|seed| {
         let damage = LAW_DAMAGES[seed as usize % LAW_DAMAGES.len()];
         law_damage::small(seed, damage)
     });
-    let mut tally = Tally::default();
-    accepted.chain(damaged).find_map(|case| {
-        let result = round::laws::filled(&REFERENCE, found, &case, &mut tally);
-        result
-            .err()
-            .map(|difference| (difference.service, case.seed))
-    })
+    made.chain(damaged).collect()
 }
 
-/// A search for the service and the file in which a difference shows first.
-type Told = fn(&Services) -> Option<(&'static str, u64)>;
+/// What a program fills in from laws, or answers, in another way than the right one.
+fn difference_of_laws(found: &Services, case: &LawCase) -> Option<Difference> {
+    round::laws::answered(&REFERENCE, found, case).err()
+}
 
-fn expect_told(mistakes: impl Iterator<Item = Mistake>, told: Told) {
-    for Mistake {
-        what,
-        shows_in,
-        services,
-    } in mistakes
-    {
-        let Some((service, seed)) = told(&services) else {
+#[test]
+fn every_wrong_planner_shows() {
+    for mistake in mistakes::planners() {
+        let what = mistake.what;
+        let Some((service, seed)) = first_difference(&mistake.services) else {
             panic!("not told from the right one: {what}");
         };
         println!("seed {seed:>4}, {service}: {what}");
-        assert_eq!(service, shows_in, "{what}");
+        assert_eq!(service, mistake.shows_in, "{what}");
     }
 }
 
+/// Some laws show each in the part of the answer that it is about, or in the output; a wrong refusal with both numbers.
 #[test]
-fn every_mistake_shows() {
-    expect_told(mistakes::planners(), first_difference);
-    expect_told(laws::MISTAKES.into_iter(), first_difference_of_laws);
+fn every_wrong_filling_shows() {
+    let files = small_laws();
+    for mistake in laws::mistakes() {
+        let (what, shows_in) = (mistake.what, mistake.shows_in);
+        let is_told_on = |case: &&LawCase| {
+            let difference = difference_of_laws(&mistake.services, case);
+            difference.is_some_and(|difference| mistake.is_told_by(&difference))
+        };
+        let Some(case) = files.iter().find(is_told_on) else {
+            panic!("not told from the right one, {shows_in}: {what}");
+        };
+        println!("seed {:>4}, {shows_in}: {what}", case.seed);
+    }
 }
 
-/// The cases that are written as text tell each from the right one too.
+fn keeps_to(line: &Line, services: &Services) -> bool {
+    written::hold(services, &line.text).is_ok()
+}
+
+/// The cases that are written as text tell each from the right one too: some line that the right one keeps to.
 #[test]
 fn some_line_tells_every_mistake() {
-    let lines = written::lines();
-    for Mistake { what, services, .. } in mistakes::planners().chain(laws::MISTAKES) {
-        let small = |line: &&written::Line| !line.text.contains("k = 12");
-        let told = |line: &written::Line| written::hold(&services, &line.text).is_err();
-        let Some(line) = lines.iter().filter(small).find(|line| told(line)) else {
+    let small = |line: &Line| !line.text.contains("k = 12");
+    let mut lines = written::lines();
+    lines.retain(|line| small(line) && keeps_to(line, &REFERENCE));
+    for Mistake { what, services, .. } in mistakes::planners().chain(laws::mistakes()) {
+        let Some(line) = lines.iter().find(|line| !keeps_to(line, &services)) else {
             panic!("no line tells: {what}");
         };
         println!("{}: {what}", line.place);
     }
 }
 
+fn expect_no_difference_of_laws(found: &Services) {
+    for case in small_laws() {
+        let difference = difference_of_laws(found, &case);
+        assert!(difference.is_none(), "seed {}: {difference:?}", case.seed);
+    }
+}
+
+/// The second planner against itself: the comparison makes up no difference. This says nothing about the planner.
 #[test]
-fn right_planner_shows_no_difference() {
+fn no_difference_is_made_up() {
     assert_eq!(first_difference(&REFERENCE), None);
-    assert_eq!(first_difference_of_laws(&REFERENCE), None);
+    expect_no_difference_of_laws(&REFERENCE);
+}
+
+/// The very files that tell the mistakes do not tell the library from the second planner.
+#[test]
+fn library_shows_no_difference() {
+    assert_eq!(first_difference(&LIBRARY), None);
+    expect_no_difference_of_laws(&LIBRARY);
 }
 
 /// C2 ÷ p falls ever more slowly and C3 · p rises evenly, so no value between one core and all of them is above both of those.
-/// To test these alone, on each side of an external transfer, comes to the same answer; with one side's left out it does not.
+/// To test these alone, on each side of an external transfer, comes to the same answer; with any one of the four corners left
+/// out it does not, which is four of `bounds::MISTAKES`.
 #[test]
 fn greatest_values_are_at_the_ends() {
-    let at_ends = Services {
+    expect_no_difference_of_laws(&Services {
         fill_costs: bounds::at_ends,
         ..REFERENCE
-    };
-    assert_eq!(first_difference_of_laws(&at_ends), None);
+    });
 }
 
-/// Some laws show each of these wrong values in a plan too: the services on what was filled in differ from the planner that
-/// works from the laws.
+/// Whether the plan has a greater bottleneck than the best one.
+fn is_worse(chain: &Chain, best: &[Module], other: &[Module]) -> bool {
+    plan::bottleneck(chain, best).is_less(plan::bottleneck(chain, other))
+}
+
+/// Small laws that have a plan, their chain and the best plan.
+fn planned_laws(seed: u64) -> Option<(LawCase, Chain, Vec<Module>)> {
+    let case = law_cases::small(seed);
+    let chain = reference::laws::chain(&case.head, &case.laws).ok()?;
+    let best = every::search(&chain)?;
+    Some((case, chain, best))
+}
+
+/// Some laws show each of these wrong values in a plan: the one that is best by the values has, by the laws, a greater bottleneck
+/// than the best one, and is not only another that is as good.
 #[test]
 fn wrong_values_lead_to_wrong_plans() {
-    for (i, value) in values::MISLEADING.into_iter().enumerate() {
-        let misleads = |seed: &u64| {
-            let case = law_cases::small(*seed);
+    let files: Vec<_> = (0..LAWS).filter_map(planned_laws).collect();
+    for mistake in values::MISLEADING {
+        let misleads = |(case, chain, best): &&(LawCase, Chain, Vec<Module>)| {
             let mut costs = vec![0; round::laws::full_bytes(&case.head)];
-            let filled = values::fill(value, &case.head, &case.laws, &mut costs);
-            let is_accepted = reference::laws::chain(&case.head, &case.laws).is_ok();
-            let mut tally = Tally::default();
-            filled.refusal == 0
-                && is_accepted
-                && round::laws::planned(&REFERENCE, &case, costs, &mut tally).is_err()
+            let filled = (mistake.services.fill_costs)(&case.head, &case.laws, &mut costs);
+            if filled.refusal != 0 {
+                return false;
+            }
+            let wrong = costs::read(&costs).expect("an accepted file");
+            every::search(&wrong).is_some_and(|found| is_worse(chain, best, &found))
         };
-        let count = (0..200).filter(misleads).count();
-        println!("wrong value {i} shows in a plan on {count} of 200 files");
-        assert!(count > 0, "wrong value {i}");
+        let count = files.iter().filter(misleads).count();
+        let (what, all) = (mistake.what, files.len());
+        println!("a worse plan on {count} of {all} files: {what}");
+        assert!(count > 0, "no worse plan: {what}");
     }
 }
 
@@ -177,10 +215,7 @@ fn wrong_searches_miss_the_least_bottleneck() {
         let misses = |seed: &u64| {
             let chain = costs::read(&cases::small(*seed).costs).expect("an accepted file");
             let found = every::search(&chain).zip(wrong(&chain));
-            found.is_some_and(|(best, worse)| {
-                let least = plan::bottleneck(&chain, &best);
-                least.is_less(plan::bottleneck(&chain, &worse))
-            })
+            found.is_some_and(|(best, found)| is_worse(&chain, &best, &found))
         };
         let count = (0..FILES).filter(misses).count();
         println!("wrong search {i} misses the least bottleneck on {count} of {FILES} files");

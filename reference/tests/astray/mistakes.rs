@@ -7,6 +7,7 @@ pub mod limits;
 pub mod searches;
 
 use reference::answer::{Answer, Refusal};
+use reference::compare::Difference;
 use reference::costs::Chain;
 use reference::every;
 use reference::greedy::{self, give};
@@ -16,7 +17,20 @@ use reference::services::{REFERENCE, Services};
 pub struct Mistake {
     pub what: &'static str,
     pub shows_in: &'static str,
+    /// Where a wrong refusal shows: the number that is due, and the one found; 0 is none.
+    pub refusals: Option<(u32, u32)>,
     pub services: Services,
+}
+
+impl Mistake {
+    /// Whether the difference is the one that the mistake must show.
+    pub fn is_told_by(&self, difference: &Difference) -> bool {
+        let numbers = match self.refusals {
+            Some((due, found)) => format!("expected {due}, found {found}"),
+            None => String::new(),
+        };
+        difference.service == self.shows_in && difference.what.ends_with(&numbers)
+    }
 }
 
 const fn in_best_plan(
@@ -26,6 +40,7 @@ const fn in_best_plan(
     Mistake {
         what,
         shows_in: "best plan",
+        refusals: None,
         services: Services {
             best_plan,
             ..REFERENCE
@@ -40,6 +55,7 @@ const fn in_greedy_plan(
     Mistake {
         what,
         shows_in: "greedy plan",
+        refusals: None,
         services: Services {
             greedy_plan,
             ..REFERENCE
@@ -51,6 +67,7 @@ const fn in_judge(what: &'static str, judge: fn(&[u8], &[u8]) -> Answer) -> Mist
     Mistake {
         what,
         shows_in: "judge",
+        refusals: None,
         services: Services { judge, ..REFERENCE },
     }
 }

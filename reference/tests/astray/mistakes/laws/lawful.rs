@@ -1,8 +1,45 @@
-//! Programs that read law records in a wrong way: each mends what it is given, or takes one law for another, and goes on.
+//! Programs that do not test all of a law record: each mends what it is given and goes on.
 
+use super::{FillCosts, Mistake, in_refusal};
 use reference::answer::Filled;
 use reference::costs;
 use reference::laws::{LAW_BYTES, due_laws, fill_costs};
+
+pub const MISTAKES: [Mistake; 17] = [
+    // "in cost-record order: kind, task, form …, a zero, five … coefficients …, unused ones zero"
+    not_refused("the kind is not tested", |head, laws, out| {
+        mending(|kind, _, record| record[0] = kind, head, laws, out)
+    }),
+    not_refused("the task is not tested", |head, laws, out| {
+        mending(|_, task, record| record[1] = task, head, laws, out)
+    }),
+    in_refusal("tasks of transfers from 2 on", (0, 17), tasks_from_2),
+    not_refused("the zero is not tested", |head, laws, out| {
+        mending(|_, _, record| record[3] = 0, head, laws, out)
+    }),
+    not_refused("kind 4's zero is not tested", any_zero_of_internals),
+    not_refused("unused coefficients are not tested", |head, laws, out| {
+        mending(|_, _, record| unused(record).fill(0), head, laws, out)
+    }),
+    not_refused("C3 of a constant is not tested", any_c3_of_constants),
+    not_refused("C4 and C5 of three terms are not tested", any_c4_and_c5),
+    not_refused("an unused C5 is not tested", any_c5),
+    not_refused("only unused ones' lowest bytes are tested", any_upper_bytes),
+    not_refused("form 3 is a constant", form_3),
+    not_refused("form 3 is a constant for kind 4", form_3_of_internals),
+    not_refused("form 3 is five terms for kind 5", form_3_of_externals),
+    not_refused("the first law of a kind is tested", first_tested),
+    // "a wrong length … with 17"
+    not_refused("more laws than are due", more_laws),
+    // "external costs take form 0 or 2, the others 0 or 1"
+    not_refused("five terms for kinds 3 and 4", five_for_others),
+    not_refused("three terms for kind 5", three_for_external),
+];
+
+/// Laws that are to be refused with 17 are filled in.
+const fn not_refused(what: &'static str, fill_costs: FillCosts) -> Mistake {
+    in_refusal(what, (17, 0), fill_costs)
+}
 
 /// The records of as many laws as are due, each with its due kind and task; none if the first part is refused or they are too
 /// few.
@@ -25,19 +62,25 @@ fn mending(mend: fn(u8, u8, &mut [u8]), head: &[u8], laws: &[u8], out: &mut [u8]
     fill_costs(head, &mended, out)
 }
 
-pub fn any_kind(head: &[u8], laws: &[u8], out: &mut [u8]) -> Filled {
-    mending(|kind, _, record| record[0] = kind, head, laws, out)
+/// The bytes of the coefficients that the record's form has no use for.
+fn unused(record: &mut [u8]) -> &mut [u8] {
+    match record[2] {
+        0 => &mut record[8..],
+        1 => &mut record[16..],
+        _ => &mut [],
+    }
 }
 
-pub fn any_task(head: &[u8], laws: &[u8], out: &mut [u8]) -> Filled {
-    mending(|_, task, record| record[1] = task, head, laws, out)
+fn tasks_from_2(head: &[u8], laws: &[u8], out: &mut [u8]) -> Filled {
+    let mend = |kind, _, record: &mut [u8]| {
+        if kind > 3 {
+            record[1] = record[1].wrapping_sub(1);
+        }
+    };
+    mending(mend, head, laws, out)
 }
 
-pub fn any_zero(head: &[u8], laws: &[u8], out: &mut [u8]) -> Filled {
-    mending(|_, _, record| record[3] = 0, head, laws, out)
-}
-
-pub fn any_zero_of_internals(head: &[u8], laws: &[u8], out: &mut [u8]) -> Filled {
+fn any_zero_of_internals(head: &[u8], laws: &[u8], out: &mut [u8]) -> Filled {
     let mend = |kind, _, record: &mut [u8]| {
         if kind == 4 {
             record[3] = 0;
@@ -46,16 +89,7 @@ pub fn any_zero_of_internals(head: &[u8], laws: &[u8], out: &mut [u8]) -> Filled
     mending(mend, head, laws, out)
 }
 
-pub fn any_unused(head: &[u8], laws: &[u8], out: &mut [u8]) -> Filled {
-    let mend = |_, _, record: &mut [u8]| match record[2] {
-        0 => record[8..].fill(0),
-        1 => record[16..].fill(0),
-        _ => {}
-    };
-    mending(mend, head, laws, out)
-}
-
-pub fn any_c3_of_constants(head: &[u8], laws: &[u8], out: &mut [u8]) -> Filled {
+fn any_c3_of_constants(head: &[u8], laws: &[u8], out: &mut [u8]) -> Filled {
     let mend = |_, _, record: &mut [u8]| {
         if record[2] == 0 {
             record[12..16].fill(0);
@@ -64,7 +98,7 @@ pub fn any_c3_of_constants(head: &[u8], laws: &[u8], out: &mut [u8]) -> Filled {
     mending(mend, head, laws, out)
 }
 
-pub fn any_c4(head: &[u8], laws: &[u8], out: &mut [u8]) -> Filled {
+fn any_c4_and_c5(head: &[u8], laws: &[u8], out: &mut [u8]) -> Filled {
     let mend = |_, _, record: &mut [u8]| {
         if record[2] == 1 {
             record[16..].fill(0);
@@ -73,7 +107,24 @@ pub fn any_c4(head: &[u8], laws: &[u8], out: &mut [u8]) -> Filled {
     mending(mend, head, laws, out)
 }
 
-pub fn form_3(head: &[u8], laws: &[u8], out: &mut [u8]) -> Filled {
+fn any_c5(head: &[u8], laws: &[u8], out: &mut [u8]) -> Filled {
+    let mend = |_, _, record: &mut [u8]| {
+        if record[2] < 2 {
+            record[20..].fill(0);
+        }
+    };
+    mending(mend, head, laws, out)
+}
+
+fn any_upper_bytes(head: &[u8], laws: &[u8], out: &mut [u8]) -> Filled {
+    let mend = |_, _, record: &mut [u8]| {
+        let coefficients = unused(record).chunks_exact_mut(4);
+        coefficients.for_each(|coefficient| coefficient[1..].fill(0));
+    };
+    mending(mend, head, laws, out)
+}
+
+fn form_3(head: &[u8], laws: &[u8], out: &mut [u8]) -> Filled {
     let mend = |_, _, record: &mut [u8]| {
         if record[2] > 2 {
             record[2] = 0;
@@ -82,7 +133,7 @@ pub fn form_3(head: &[u8], laws: &[u8], out: &mut [u8]) -> Filled {
     mending(mend, head, laws, out)
 }
 
-pub fn form_3_of_internals(head: &[u8], laws: &[u8], out: &mut [u8]) -> Filled {
+fn form_3_of_internals(head: &[u8], laws: &[u8], out: &mut [u8]) -> Filled {
     let mend = |kind, _, record: &mut [u8]| {
         if kind == 4 && record[2] > 2 {
             record[2] = 0;
@@ -92,7 +143,7 @@ pub fn form_3_of_internals(head: &[u8], laws: &[u8], out: &mut [u8]) -> Filled {
 }
 
 /// An external cost that is no constant and has not three terms is taken to have five.
-pub fn form_3_of_externals(head: &[u8], laws: &[u8], out: &mut [u8]) -> Filled {
+fn form_3_of_externals(head: &[u8], laws: &[u8], out: &mut [u8]) -> Filled {
     let mend = |kind, _, record: &mut [u8]| {
         if kind == 5 && record[2] > 2 {
             record[2] = 2;
@@ -101,8 +152,30 @@ pub fn form_3_of_externals(head: &[u8], laws: &[u8], out: &mut [u8]) -> Filled {
     mending(mend, head, laws, out)
 }
 
+/// Of all other laws nothing is tested: what is no constant has the terms of its kind.
+fn first_tested(head: &[u8], laws: &[u8], out: &mut [u8]) -> Filled {
+    let mend = |kind, task, record: &mut [u8]| {
+        if task > 1 {
+            let form = match (kind, record[2]) {
+                (_, 0) => 0,
+                (5, _) => 2,
+                _ => 1,
+            };
+            record[..4].copy_from_slice(&[kind, task, form, 0]);
+            unused(record).fill(0);
+        }
+    };
+    mending(mend, head, laws, out)
+}
+
+fn more_laws(head: &[u8], laws: &[u8], out: &mut [u8]) -> Filled {
+    let mut kept = laws.to_vec();
+    let due = due_records(head, &mut kept).map(|records| records.len() * LAW_BYTES);
+    fill_costs(head, &laws[..due.unwrap_or(laws.len())], out)
+}
+
 /// The five terms are taken for the first three.
-pub fn five_for_others(head: &[u8], laws: &[u8], out: &mut [u8]) -> Filled {
+fn five_for_others(head: &[u8], laws: &[u8], out: &mut [u8]) -> Filled {
     let mend = |kind, _, record: &mut [u8]| {
         if kind < 5 && record[2] == 2 {
             record[2] = 1;
@@ -113,97 +186,18 @@ pub fn five_for_others(head: &[u8], laws: &[u8], out: &mut [u8]) -> Filled {
 }
 
 /// C3 · p is taken for C4 · s.
-pub fn three_for_external(head: &[u8], laws: &[u8], out: &mut [u8]) -> Filled {
+fn three_for_external(head: &[u8], laws: &[u8], out: &mut [u8]) -> Filled {
     let mend = |kind, _, record: &mut [u8]| {
         if kind == 5 && record[2] == 1 {
-            record[2] = 2;
-            move_c3_to_c4(record);
+            three_as_five(record);
         }
     };
     mending(mend, head, laws, out)
 }
 
 /// Three terms as five that say the same of s.
-fn move_c3_to_c4(record: &mut [u8]) {
+pub fn three_as_five(record: &mut [u8]) {
+    record[2] = 2;
     record.copy_within(12..16, 16);
     record[12..16].fill(0);
-}
-
-/// All other laws of a kind may have any form and zero.
-pub fn first_tested(head: &[u8], laws: &[u8], out: &mut [u8]) -> Filled {
-    let mend = |_, task, record: &mut [u8]| {
-        if task > 1 {
-            record[3] = 0;
-            record[2] %= 3;
-        }
-    };
-    mending(mend, head, laws, out)
-}
-
-pub fn more_laws(head: &[u8], laws: &[u8], out: &mut [u8]) -> Filled {
-    let mut kept = laws.to_vec();
-    let due = due_records(head, &mut kept).map(|records| records.len() * LAW_BYTES);
-    fill_costs(head, &laws[..due.unwrap_or(laws.len())], out)
-}
-
-/// The service on rearranged laws, by k, if they are as many as are due and there is a transfer.
-fn rearranging(change: fn(usize, &mut [u8]), head: &[u8], laws: &[u8], out: &mut [u8]) -> Filled {
-    let mut changed = laws.to_vec();
-    if due_records(head, &mut changed).is_some() && head[3] > 1 {
-        change(head[3].into(), &mut changed);
-    }
-    fill_costs(head, &changed, out)
-}
-
-/// Only where both laws are right, so that it is no other mistake.
-pub fn internal_for_external(head: &[u8], laws: &[u8], out: &mut [u8]) -> Filled {
-    let change = |tasks: usize, laws: &mut [u8]| {
-        for pair in 0..tasks - 1 {
-            let (from, to) = (tasks + pair, 2 * tasks - 1 + pair);
-            let (from, to) = (from * LAW_BYTES, to * LAW_BYTES);
-            laws.copy_within(from + 2..from + LAW_BYTES, to + 2);
-            let external = &mut laws[to..to + LAW_BYTES];
-            if external[2] == 1 {
-                external[2] = 2;
-                move_c3_to_c4(external);
-            }
-        }
-    };
-    if fill_costs(head, laws, &mut []).refusal != 19 {
-        return fill_costs(head, laws, out);
-    }
-    rearranging(change, head, laws, out)
-}
-
-pub fn first_for_every(head: &[u8], laws: &[u8], out: &mut [u8]) -> Filled {
-    let change = |tasks: usize, laws: &mut [u8]| {
-        for i in 1..tasks {
-            laws.copy_within(2..LAW_BYTES, i * LAW_BYTES + 2);
-        }
-    };
-    rearranging(change, head, laws, out)
-}
-
-pub fn tasks_from_2(head: &[u8], laws: &[u8], out: &mut [u8]) -> Filled {
-    let mend = |kind, _, record: &mut [u8]| {
-        if kind > 3 {
-            record[1] = record[1].wrapping_sub(1);
-        }
-    };
-    mending(mend, head, laws, out)
-}
-
-/// Behind the executions, kinds 4 and 5 of task 1 are due, then those of task 2.
-pub fn by_task(head: &[u8], laws: &[u8], out: &mut [u8]) -> Filled {
-    let change = |tasks: usize, laws: &mut [u8]| {
-        let transfers = &mut laws[tasks * LAW_BYTES..];
-        let records: Vec<Vec<u8>> = transfers.chunks(LAW_BYTES).map(<[u8]>::to_vec).collect();
-        let (internals, externals) = transfers.split_at_mut((tasks - 1) * LAW_BYTES);
-        for (i, pair) in records.chunks_exact(2).enumerate() {
-            let at = i * LAW_BYTES..(i + 1) * LAW_BYTES;
-            internals[at.clone()].copy_from_slice(&pair[0]);
-            externals[at].copy_from_slice(&pair[1]);
-        }
-    };
-    rearranging(change, head, laws, out)
 }
