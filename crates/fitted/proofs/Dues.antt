@@ -10,8 +10,9 @@ use Rattle.records.specs.declared.Key.{Key}
 use Rattle.records.specs.Costs.{key, each, join, joinFrom, dueKeys, countOf}
 use Rattle.records.proofs.Bounds.{place-bound}
 use Rattle.records.proofs.Listing.{length-each, keys-count}
-use Rattle.fitted.specs.Laws.{lawAt}
-use Rattle.fitted.specs.Fill.{lawOf, costAt, lawCount, costKeys, valueBy, recordOf, recordsOf, costRecords, recordsFrom}
+use Rattle.laws.specs.Laws.{lawAt}
+use Rattle.laws.specs.Form.{lawOf, costAt}
+use Rattle.fitted.specs.Fill.{lawCount, costKeys, valueBy, recordOf, recordsOf, costRecords, recordsFrom}
 use Rattle.fitted.specs.Claims.{IsLaws}
 use Rattle.fitted.proofs.Keys.{noKey, cost-count, cost-key}
 use Rattle.fitted.proofs.Walks.{length-records}

@@ -1,49 +1,22 @@
--- What holds of costs filled in from laws (document 02, M-101): the laws that a reader looks for. The definitions are in specs/Laws,
--- specs/Fill and specs/Claims. Assumes nothing.
-use mathlib.Core.Path.{_≡_, refl}
+-- What holds of costs filled in from laws (document 02, M-101): the laws that a reader looks for. The definitions are in specs/Fill and
+-- specs/Claims; what a record of laws says, and gives, is in the crate `laws`. Assumes nothing.
+use mathlib.Core.Path.{_≡_}
 use mathlib.Core.Bool.{true}
 use mathlib.Core.List.{List}
 use mathlib.Core.Logic.{_↔_}
-use Prim.Native.Nat.{ℕ, suc, _+_, _-_, _*_, _≤_, _<_}
-use native.Mathlib.Nat.{suc-mul, div-lt-iff-lt-mul}
-use native.Mathlib.Omega.{arith}
+use Prim.Native.Nat.{ℕ, _*_, _≤_, _<_}
 use lib.ListN.{length, getD, take, drop}
 use Rattle.records.specs.declared.Reading.{Reading}
 use Rattle.records.specs.declared.Filled.{Filled}
 use Rattle.records.specs.Costs.{key, countOf}
-use Rattle.fitted.specs.Laws.{roundedUp, lawAt}
-use Rattle.fitted.specs.Fill.{readFirst, lawByte, coefficient, lawOf, lawCount, lawKeys, lawKey, lawsMeet, valuesMeet, fillAnswer, fillBytes}
+use Rattle.laws.specs.Form.{lawOf}
+use Rattle.fitted.specs.Fill.{readFirst, lawCount, lawKeys, lawKey, lawsMeet, valuesMeet, fillAnswer, fillBytes}
 use Rattle.fitted.specs.Claims.{IsFirst, FirstFinds, IsLaws, LawSays, InBounds, Fills, Follows, executionPlace, internalPlace, externalPlace}
 use Rattle.fitted.proofs.Keys as keys
 use Rattle.fitted.proofs.Stated as stated
 use Rattle.fitted.proofs.Bounded as bounded
 use Rattle.fitted.proofs.Begun as begun
 use Rattle.fitted.proofs.Deciding as deciding
-
--- ---- the laws of document 000, section 5
-
--- rounded up: the least whole number that, times y, reaches x
-pub rounded-least : (x y n : ℕ) → 1 ≤ y → (roundedUp x y ≤ n) ↔ (x ≤ n * y)
-unfolding roundedUp
-rounded-least x y n h = (
-  λ e. let l = div-lt-iff-lt-mul {k = y} {x = x + (y - 1)} {y = suc n} h .0 (omega arith) in omega (arith, l, suc-mul n y),
-  λ e. let l = div-lt-iff-lt-mul {k = y} {x = x + (y - 1)} {y = suc n} h .1 (omega (arith, suc-mul n y)) in omega (arith, l),
-)
-
--- what record n of the laws gives, by its form: which coefficient stands where
-module _ (l : List ℕ) (n s q : ℕ) where
-  pub constant-law : lawByte l n 2 ≡ 0 → lawAt (lawOf l n) s q ≡ coefficient l n 1
-  unfolding lawOf lawAt
-  constant-law e = rw e (refl)
-
-  pub three-law : lawByte l n 2 ≡ 1 → lawAt (lawOf l n) s q ≡ coefficient l n 1 + roundedUp (coefficient l n 2) s + coefficient l n 3 * s
-  unfolding lawOf lawAt
-  three-law e = rw e (refl)
-
-  pub five-law : lawByte l n 2 ≡ 2
-      → lawAt (lawOf l n) s q ≡ coefficient l n 1 + roundedUp (coefficient l n 2) s + roundedUp (coefficient l n 3) q + coefficient l n 4 * s + coefficient l n 5 * q
-  unfolding lawOf lawAt
-  five-law e = rw e (refl)
 
 -- ---- the due records of laws, for every k from 1: 3k − 2, and each by its place is the computed one
 
@@ -98,7 +71,7 @@ module _ (head l out : List ℕ) where
   -- what is filled in has a first part and a law for each cost of its chain; it is accepted costs of that board, each its law's value;
   -- behind it the output is as lent
   module _ (z : fillAnswer head l out .refusal ≡ 0) where
-    -- so a law's value is spelt out in one record's coefficients by `execution-law` and the like, then `three-law` and the like
+    -- so a law's value is spelt out in one record's coefficients by `execution-law` and the like, then `laws`' `three-law` and the like
     pub fill-first : IsFirst head (readFirst head .board)
     fill-first = deciding.fill-first head l out z
 

@@ -1,6 +1,5 @@
 pub mod Keys
 pub mod Parts
-pub mod Products
 pub mod Stores
 pub mod Walks
 pub mod Stated

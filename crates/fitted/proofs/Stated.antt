@@ -1,82 +1,21 @@
--- The test of the laws against M-101's direct statement: each test holds exactly where its claim does. Assumes nothing.
+-- The test of a chain's laws against M-101's direct statement: it holds exactly where each record is the law that is due. Assumes nothing.
 use mathlib.Core.Path.{_≡_, refl, sym, subst, _∙_}
-use mathlib.Core.Bool.{true, false, cond, _&&_}
+use mathlib.Core.Bool.{true, cond}
 use mathlib.Core.List.{List, [], _∷_}
 use mathlib.Core.Logic.{⊎-elim}
 use Prim.Native.Nat.{ℕ, zero, suc, _+_, _-_, _*_, _≤_, _<_}
 use native.Mathlib.Omega.{arith}
 use lib.ListN.{length, getD}
 use lib.Dec.{eqb}
-use borrow.Author.Tests.{eq-eqb, ne-eqb, eqb-true, eqb-false, lt-ltb, le-ltb}
+use borrow.Author.Tests.{eq-eqb, eqb-true, lt-ltb, le-ltb}
 use Rattle.records.specs.declared.Key.{Key}
-use Rattle.records.proofs.Cases.{lt-or-le, true-or-false, and-true, or-right}
-use Rattle.fitted.specs.Fill.{lawByte, coefficient, lawOf, lawCount, lawKeys, lawKey, formMeets, unusedMeets, lawMeets, meetFrom, lawsMeet}
-use Rattle.fitted.specs.Claims.{Formed, Formed.constant, Formed.three-terms, Formed.five-terms, States, IsLaws, LawSays, executionPlace, internalPlace, externalPlace}
+use Rattle.records.proofs.Cases.{lt-or-le, and-true}
+use Rattle.laws.specs.Form.{lawByte, lawOf, lawMeets}
+use Rattle.laws.specs.Claims.{States}
+use Rattle.laws.proofs.Laws.{law-exactly}
+use Rattle.fitted.specs.Fill.{lawCount, lawKeys, lawKey, meetFrom, lawsMeet}
+use Rattle.fitted.specs.Claims.{IsLaws, LawSays, executionPlace, internalPlace, externalPlace}
 use Rattle.fitted.proofs.Keys.{noKey, laws-count, law-key-at}
-
--- ---- one record
-
-module _ (l : List ℕ) (n kind : ℕ) where
-  zero-both : (i : ℕ) → (eqb (coefficient l n i) 0 && eqb (coefficient l n (i + 1)) 0) ≡ true → (coefficient l n i ≡ 0) × (coefficient l n (i + 1) ≡ 0)
-  zero-both i e =
-      let h = and-true (eqb (coefficient l n i) 0) (eqb (coefficient l n (i + 1)) 0) e in
-      (eqb-true (coefficient l n i) 0 (h .0), eqb-true (coefficient l n (i + 1)) 0 (h .1))
-
-  unused-of-constant : unusedMeets l n 0 ≡ true
-      → (coefficient l n 2 ≡ 0) × (coefficient l n 3 ≡ 0) × (coefficient l n 4 ≡ 0) × (coefficient l n 5 ≡ 0)
-  unfolding unusedMeets
-  unused-of-constant e =
-      let h = and-true (eqb (coefficient l n 2) 0 && eqb (coefficient l n 3) 0) (eqb (coefficient l n 4) 0 && eqb (coefficient l n 5) 0) e in
-      let a = zero-both 2 (h .0) in
-      let b = zero-both 4 (h .1) in
-      (a .0, a .1, b .0, b .1)
-
-  unused-of-three : unusedMeets l n 1 ≡ true → (coefficient l n 4 ≡ 0) × (coefficient l n 5 ≡ 0)
-  unfolding unusedMeets
-  unused-of-three e = zero-both 4 e
-
-  formed : (form : ℕ) → lawByte l n 2 ≡ form → formMeets kind form ≡ true → unusedMeets l n form ≡ true → Formed l n kind
-  unfolding formMeets
-  formed form e f u = ⊎-elim
-      (λ (t : eqb form 0 ≡ true). let z = eqb-true form 0 t in let h = unused-of-constant (rw z at u) in constant (e ∙ z) (h .0) (h .1) (h .2) (h .3))
-      (λ (t : eqb form 0 ≡ false). let o = or-right (eqb form 0) (eqb form (cond (eqb kind 5) 2 1)) f t in ⊎-elim
-      (λ (k : eqb kind 5 ≡ true). five-terms (eqb-true kind 5 k) (e ∙ eqb-true form 2 (rw k at o)))
-      (λ (k : eqb kind 5 ≡ false). let z = eqb-true form 1 (rw k at o) in let h = unused-of-three (rw z at u) in three-terms (eqb-false kind 5 k) (e ∙ z) (h .0) (h .1))
-      (true-or-false (eqb kind 5)))
-      (true-or-false (eqb form 0))
-
-  form-of : Formed l n kind → formMeets kind (lawByte l n 2) ≡ true
-  unfolding formMeets
-  form-of (constant f a b c d) = rw f (refl)
-  form-of (three-terms k f c d) = rw (f, ne-eqb kind 5 k) (refl)
-  form-of (five-terms k f) = rw (f, k) (refl)
-
-  unused-of : Formed l n kind → unusedMeets l n (lawByte l n 2) ≡ true
-  unfolding unusedMeets
-  unused-of (constant f a b c d) = rw (f, a, b, c, d) (refl)
-  unused-of (three-terms k f c d) = rw (f, c, d) (refl)
-  unused-of (five-terms k f) = rw f (refl)
-
-module _ (l : List ℕ) (n : ℕ) (d : Key) where
-  meets-states : lawMeets l n d ≡ true → States l n (d .kind) (d .task)
-  unfolding lawMeets
-  meets-states e =
-      let h₄ = and-true _ _ e in
-      let h₃ = and-true _ _ (h₄ .0) in
-      let h₂ = and-true _ _ (h₃ .0) in
-      let h₁ = and-true _ _ (h₂ .0) in
-      record {
-        kind-is = eqb-true _ _ (h₁ .0);
-        task-is = eqb-true _ _ (h₁ .1);
-        form-is = formed l n (d .kind) (lawByte l n 2) refl (h₂ .1) (h₄ .1);
-        zero-is = eqb-true _ _ (h₃ .1);
-      }
-
-  states-meets : States l n (d .kind) (d .task) → lawMeets l n d ≡ true
-  unfolding lawMeets
-  states-meets h =
-      simp (eq-eqb (lawByte l n 0) (d .kind) (h .kind-is), eq-eqb (lawByte l n 1) (d .task) (h .task-is), form-of l n (d .kind) (h .form-is), eq-eqb (lawByte l n 3) 0 (h .zero-is))
-      (unused-of l n (d .kind) (h .form-is))
 
 -- ---- all records
 
@@ -131,7 +70,7 @@ module _ (l : List ℕ) (k : ℕ) (some : 1 ≤ k) where
   meets-stated e n h =
       let z : 0 + n ≡ n = omega arith in
       let m = each-meets l 0 (lawKeys k) (and-true (eqb (length l) (24 * lawCount k)) (meetFrom l 0 (lawKeys k)) e .1) n (omega (arith, laws-count k)) in
-      meets-states l n (lawKey k n) (rw (z, law-key-at k some n h) at m)
+      law-exactly l n (lawKey k n) .0 (rw (z, law-key-at k some n h) at m)
 
   stated-meets : length l ≡ 24 * lawCount k → ((n : ℕ) → n < lawCount k → Stated n) → lawsMeet l k ≡ true
   unfolding lawsMeet Stated
@@ -140,7 +79,7 @@ module _ (l : List ℕ) (k : ℕ) (some : 1 ≤ k) where
       (all-meet l 0 (lawKeys k) (λ j b.
       let z : 0 + j ≡ j = omega arith in
       let u : j < lawCount k = omega (arith, laws-count k) in
-      rw (z, law-key-at k some j u) (states-meets l j (lawKey k j) (h j u))))
+      rw (z, law-key-at k some j u) (law-exactly l j (lawKey k j) .1 (h j u))))
 
   pub meets-laws : lawsMeet l k ≡ true → IsLaws l k
   unfolding lawsMeet Stated lawKey

@@ -13,10 +13,11 @@ use borrow.Author.Tests.{le-leb, lt-leb, leb-true}
 use Rattle.records.specs.declared.Key.{Key}
 use Rattle.records.specs.Costs.{mostValue, key}
 use Rattle.records.proofs.Cases.{and-true}
-use Rattle.fitted.specs.declared.Law.{Law}
-use Rattle.fitted.specs.declared.Cost.{Cost}
-use Rattle.fitted.specs.Laws.{lawAt}
-use Rattle.fitted.specs.Fill.{lawMeets, meetFrom, costAt, costKeys, costCount, aOf, bOf, valueBy, costWithin, costRecords, keysWithin, valuesMeet, recordOf, recordsOf, recordsFrom}
+use Rattle.laws.specs.declared.Law.{Law}
+use Rattle.laws.specs.declared.Cost.{Cost}
+use Rattle.laws.specs.Laws.{lawAt}
+use Rattle.laws.specs.Form.{lawMeets, costAt}
+use Rattle.fitted.specs.Fill.{meetFrom, costKeys, costCount, aOf, bOf, valueBy, costWithin, costRecords, keysWithin, valuesMeet, recordOf, recordsOf, recordsFrom}
 use Rattle.fitted.proofs.Keys.{noKey, cost-count, cost-key}
 use Rattle.fitted.proofs.Stores.{sets-append}
 

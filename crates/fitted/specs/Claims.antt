@@ -11,9 +11,11 @@ use Rattle.records.specs.Costs.{mostValue, key, countOf, boardOf, accepted, ref
 use Rattle.records.specs.Format.{Bears, InRange, Whole, Headed, Ranged, Opens}
 use Rattle.records.specs.Filled.{filledIn, unfilled}
 use Rattle.lookups.specs.Lookups.{executionOf, internalOf, pairOf, externalOf}
-use Rattle.fitted.specs.declared.Law.{Law}
-use Rattle.fitted.specs.Laws.{lawAt}
-use Rattle.fitted.specs.Fill.{lawByte, coefficient, lawOf, lawCount}
+use Rattle.laws.specs.declared.Law.{Law}
+use Rattle.laws.specs.Laws.{lawAt}
+use Rattle.laws.specs.Form.{lawBytes, lawByte, lawOf}
+use Rattle.laws.specs.Claims.{States}
+use Rattle.fitted.specs.Fill.{lawCount}
 
 -- ---- the first part
 
@@ -46,19 +48,6 @@ pub data FirstFinds (s : List ℕ) : Reading → Type 0 where
 
 -- ---- the laws
 
--- record n has a form that the kind takes, and the coefficients that it does not use are zero
-pub data Formed (l : List ℕ) (n kind : ℕ) : Type 0 where
-  constant : lawByte l n 2 ≡ 0 → coefficient l n 2 ≡ 0 → coefficient l n 3 ≡ 0 → coefficient l n 4 ≡ 0 → coefficient l n 5 ≡ 0 → Formed l n kind
-  three-terms : (kind ≡ 5 → ⊥) → lawByte l n 2 ≡ 1 → coefficient l n 4 ≡ 0 → coefficient l n 5 ≡ 0 → Formed l n kind
-  five-terms : kind ≡ 5 → lawByte l n 2 ≡ 2 → Formed l n kind
-
--- record n is a law for that kind and task
-pub record States (l : List ℕ) (n kind task : ℕ) : Type 0 where
-  pub kind-is : lawByte l n 0 ≡ kind
-  pub task-is : lawByte l n 1 ≡ task
-  pub form-is : Formed l n kind
-  pub zero-is : lawByte l n 3 ≡ 0
-
 -- where the law of a task's execution, and of its internal and external transfer to the next, stands among those of k tasks
 abbrev pub executionPlace : ℕ → ℕ
 executionPlace t = t - 1
@@ -71,7 +60,7 @@ externalPlace k t = k + (k - 1) + (t - 1)
 
 -- l is the laws of a chain of k tasks: one record for each cost, in the order of the cost records
 pub record IsLaws (l : List ℕ) (k : ℕ) : Type 0 where
-  pub long : length l ≡ 24 * lawCount k
+  pub long : length l ≡ lawBytes * lawCount k
   pub executions : (t : ℕ) → 1 ≤ t → t ≤ k → States l (executionPlace t) 3 t
   pub internals : (t : ℕ) → 1 ≤ t → t < k → States l (internalPlace k t) 4 t
   pub externals : (t : ℕ) → 1 ≤ t → t < k → States l (externalPlace k t) 5 t

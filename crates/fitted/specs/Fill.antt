@@ -2,10 +2,9 @@
 -- Records are counted from 0 here and a refusal's place from 1. Assumes nothing.
 use Prim.Native.Nat.{ℕ, zero, suc, _+_, _-_, _*_, _/_, _%_}
 use mathlib.Core.List.{List, [], _∷_, _++_}
-use mathlib.Core.Bool.{Bool, true, cond, _&&_, _||_}
-use lib.ListN.{length, getD, drop}
+use mathlib.Core.Bool.{Bool, true, cond, _&&_}
+use lib.ListN.{length, drop}
 use lib.Dec.{ltb, leb, eqb}
-use Rattle.fields.specs.Fields.{wordOf}
 use Rattle.records.specs.declared.Board.{Board}
 use Rattle.records.specs.declared.Reading.{Reading}
 use Rattle.records.specs.declared.Refusal.{Refusal}
@@ -13,10 +12,10 @@ use Rattle.records.specs.declared.Key.{Key}
 use Rattle.records.specs.declared.Filled.{Filled}
 use Rattle.records.specs.Costs.{mostValue, key, each, join, countOf, firstFault, refused, readBoard}
 use Rattle.records.specs.Filled.{filledIn, unfilled}
-use Rattle.fitted.specs.declared.Law.{Law}
-use Rattle.fitted.specs.declared.Law.the-variants.{Constant, Three, Five}
-use Rattle.fitted.specs.declared.Cost.{Cost}
-use Rattle.fitted.specs.Laws.{lawAt}
+use Rattle.laws.specs.declared.Law.{Law}
+use Rattle.laws.specs.declared.Cost.{Cost}
+use Rattle.laws.specs.Laws.{lawAt}
+use Rattle.laws.specs.Form.{lawBytes, costAt, lawMeets}
 
 -- ---- the first part: the records of kinds 1 and 2
 
@@ -37,29 +36,7 @@ readFirst s =
     let f = tasksFault s (r .board) in
     cond (eqb (r .number) 0) (cond (eqb (f .number) 0) r (refused (f .number) (f .place))) r
 
--- ---- records of laws: 24 bytes, kind, task, form, a zero, and five coefficients of four bytes, lowest first
-
-abbrev pub lawByte : List ℕ → ℕ → ℕ → ℕ
-lawByte l n j = getD l (24 * n + j) 0
-
--- the number in the four bytes from i on
-abbrev pub numberAt : List ℕ → ℕ → ℕ
-numberAt l i = wordOf (getD l i 0) (getD l (i + 1) 0) (getD l (i + 2) 0) (getD l (i + 3) 0)
-
--- C1 to C5 of record n
-unfoldable pub coefficient : List ℕ → ℕ → ℕ → ℕ
-coefficient l n i = numberAt l (24 * n + 4 * i)
-
--- the law of record n: form 0 is constant, 1 has three terms, 2 has five
-unfoldable pub lawOf : List ℕ → ℕ → Law
-lawOf l n =
-    let form = lawByte l n 2 in
-    let c = coefficient l n in
-    cond (eqb form 0) (Constant (c 1)) (cond (eqb form 1) (Three (c 1) (c 2) (c 3)) (Five (c 1) (c 2) (c 3) (c 4) (c 5)))
-
--- the cost that record n states
-unfoldable pub costAt : List ℕ → ℕ → Cost
-costAt l n = record { kind = lawByte l n 0; task = lawByte l n 1; law = lawOf l n }
+-- ---- the laws of a chain: a record for each cost
 
 -- how many there are, and their kinds and tasks in the order of the cost records
 abbrev pub lawCount : ℕ → ℕ
@@ -72,21 +49,6 @@ lawKeys k = each k (λ t. key 3 t 0 0) ++ (each (k - 1) (λ t. key 4 t 0 0) ++ e
 unfoldable pub lawKey : ℕ → ℕ → Key
 lawKey k n = cond (ltb n k) (key 3 (n + 1) 0 0) (cond (ltb n (2 * k - 1)) (key 4 (n - k + 1) 0 0) (key 5 (n - (2 * k - 1) + 1) 0 0))
 
--- external costs take form 0 or 2, the others 0 or 1
-unfoldable pub formMeets : ℕ → ℕ → Bool
-formMeets kind form = eqb form 0 || eqb form (cond (eqb kind 5) 2 1)
-
--- unused coefficients are zero: C2 and C3 are used by forms 1 and 2, C4 and C5 by form 2
-unfoldable pub unusedMeets : List ℕ → ℕ → ℕ → Bool
-unusedMeets l n form =
-    let c = coefficient l n in
-    (leb 1 form || (eqb (c 2) 0 && eqb (c 3) 0)) && (leb 2 form || (eqb (c 4) 0 && eqb (c 5) 0))
-
--- record n has the due kind and task, a form that this kind takes, a zero, and nothing that is not used
-unfoldable pub lawMeets : List ℕ → ℕ → Key → Bool
-lawMeets l n d =
-    eqb (lawByte l n 0) (d .kind) && eqb (lawByte l n 1) (d .task) && formMeets (d .kind) (lawByte l n 2) && eqb (lawByte l n 3) 0 && unusedMeets l n (lawByte l n 2)
-
 -- the records from n on against a list of keys
 unfoldable pub meetFrom : List ℕ → ℕ → List Key → Bool
 meetFrom l n [] = true
@@ -94,7 +56,7 @@ meetFrom l n (d ∷ ds) = let rest = meetFrom l (n + 1) ds in lawMeets l n d && 
 
 -- refusal 17: the length, and every record
 unfoldable pub lawsMeet : List ℕ → ℕ → Bool
-lawsMeet l k = eqb (length l) (24 * lawCount k) && meetFrom l 0 (lawKeys k)
+lawsMeet l k = eqb (length l) (lawBytes * lawCount k) && meetFrom l 0 (lawKeys k)
 
 -- ---- the values of a law and their records
 

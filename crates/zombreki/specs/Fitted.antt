@@ -6,8 +6,9 @@ use lib.ListN.{take}
 use Rattle.records.specs.declared.Board.{Board}
 use Rattle.lookups.specs.Lookups.{within, hasNext, needOf, replicableOf, limitOf}
 use Rattle.modules.specs.Model.{Chain}
-use Rattle.fitted.specs.Laws.{lawAt}
-use Rattle.fitted.specs.Fill.{lawOf, fillAnswer, fillBytes}
+use Rattle.laws.specs.Laws.{lawAt}
+use Rattle.laws.specs.Form.{lawOf}
+use Rattle.fitted.specs.Fill.{fillAnswer, fillBytes}
 use Rattle.fitted.specs.Claims.{executionPlace, internalPlace, externalPlace}
 
 -- the costs filled in: the bytes that the answer counts

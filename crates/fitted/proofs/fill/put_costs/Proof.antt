@@ -7,8 +7,9 @@ use native.Mathlib.Omega.{arith}
 use borrow.Author.Needs.{needs}
 use lib.ListN.{length}
 use lib.Seq.{sets}
-use Rattle.fitted.specs.declared.Cost.{Cost}
-use Rattle.fitted.specs.Fill.{lawCount, costAt, costCount, costWithin, valuesMeet, recordsFrom}
+use Rattle.laws.specs.declared.Cost.{Cost}
+use Rattle.laws.specs.Form.{costAt}
+use Rattle.fitted.specs.Fill.{lawCount, costCount, costWithin, valuesMeet, recordsFrom}
 use Rattle.fitted.proofs.Walks.{values-split, costs-length, costs-next, records-end}
 use Rattle.fitted.proofs.fill.put_costs.Statement.{statement}
 use Rattle.fitted.proofs.fill.put_costs.Tie as tie

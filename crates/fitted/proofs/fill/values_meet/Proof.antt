@@ -5,7 +5,7 @@ use native.Mathlib.Omega.{arith}
 use borrow.Author.Tests.{not-true, not-false}
 use borrow.Author.Needs.{needs}
 use Rattle.fitted.specs.Fill.{lawCount, costWithin, valuesMeet}
-use Rattle.fitted.specs.declared.Cost.{Cost}
+use Rattle.laws.specs.declared.Cost.{Cost}
 use Rattle.fitted.proofs.Walks.{values-next, values-not, values-end}
 use Rattle.fitted.proofs.fill.values_meet.Statement.{statement}
 use Rattle.fitted.proofs.fill.values_meet.Tie as tie
