@@ -16,8 +16,8 @@ use Rattle.lookups.proofs.Places.{cellOf-lt, cellOf-div, cellOf-mod}
 use Rattle.laws.specs.declared.Cost.{Cost}
 use Rattle.laws.specs.Laws.{lawAt}
 use Rattle.laws.specs.Form.{lawOf, costAt}
-use Rattle.fitted.specs.Fill.{lawCount, costKeys, costCount, aOf, bOf, valueBy, keysWithin, costWithin, valuesMeet}
 use Rattle.laws.specs.Claims.{States}
+use Rattle.fitted.specs.Fill.{lawCount, costKeys, costCount, aOf, bOf, valueBy, keysWithin, costWithin, valuesMeet}
 use Rattle.fitted.specs.Claims.{IsLaws, InBounds}
 use Rattle.fitted.proofs.Keys.{noKey, cost-count, cost-key, square-places, row-places}
 use Rattle.fitted.proofs.Walks.{within-at}

@@ -71,10 +71,10 @@ module _ (head l out : List ℕ) where
   -- what is filled in has a first part and a law for each cost of its chain; it is accepted costs of that board, each its law's value;
   -- behind it the output is as lent
   module _ (z : fillAnswer head l out .refusal ≡ 0) where
-    -- so a law's value is spelt out in one record's coefficients by `execution-law` and the like, then `laws`' `three-law` and the like
     pub fill-first : IsFirst head (readFirst head .board)
     fill-first = deciding.fill-first head l out z
 
+    -- with `execution-law` and the like, then `three-law` and the like of `laws`, a value is spelt out in one record's coefficients
     pub fill-laws : IsLaws l (readFirst head .board .tasks)
     fill-laws = deciding.fill-laws head l out z
 

@@ -1,4 +1,4 @@
--- Costs from a few measurements (document 02, M-101): the first part, the records of laws, and what filling in answers and writes.
+-- Costs from a few measurements (document 02, M-101): the first part, the laws of a chain, and what filling in answers and writes.
 -- Records are counted from 0 here and a refusal's place from 1. Assumes nothing.
 use Prim.Native.Nat.{ℕ, zero, suc, _+_, _-_, _*_, _/_, _%_}
 use mathlib.Core.List.{List, [], _∷_, _++_}

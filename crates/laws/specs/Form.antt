@@ -11,6 +11,7 @@ use Rattle.laws.specs.declared.Law.{Law}
 use Rattle.laws.specs.declared.Law.the-variants.{Constant, Three, Five}
 use Rattle.laws.specs.declared.Cost.{Cost}
 
+-- the bytes of a record
 abbrev pub lawBytes : ℕ
 lawBytes = 24
 
