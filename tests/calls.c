@@ -20,7 +20,7 @@ _Static_assert(sizeof(struct zombreki_filled) == 12, "three 32-bit numbers");
 _Static_assert(_Alignof(struct zombreki_filled) == 4, "aligned as one of them");
 _Static_assert(offsetof(struct zombreki_filled, refusal) == 0, "refusal first");
 _Static_assert(offsetof(struct zombreki_filled, place) == 4, "then the place");
-_Static_assert(offsetof(struct zombreki_filled, count) == 8, "then the bytes filled in");
+_Static_assert(offsetof(struct zombreki_filled, count) == 8, "then the count");
 
 static int failures;
 
@@ -224,6 +224,25 @@ static void refuses_laws(const uint8_t *costs)
     expect("fill, none", fills(zombreki_fill_costs(NULL, 0, NULL, 0, NULL, 0), 1, 0, 0));
 }
 
+/* Document 02, M-102: the last task of the longest module that the dock's four cores hold. Byte 4 of the file is the capacity: 49
+ * for each core is too little for both tasks. Byte 19 is the limit of task 2, whose record is the third. */
+static void finds_reaches(const uint8_t *costs, size_t length)
+{
+    uint8_t changed[248];
+    memcpy(changed, costs, sizeof changed);
+    expect("reach of task 0", fills(zombreki_reach(costs, length, 0), 0, 0, 0));
+    expect("reach of task 1", fills(zombreki_reach(costs, length, 1), 0, 0, 2));
+    expect("reach of task 2", fills(zombreki_reach(costs, length, 2), 0, 0, 2));
+    expect("reach of task 3", fills(zombreki_reach(costs, length, 3), 0, 0, 0));
+    expect("reach of task 255", fills(zombreki_reach(costs, length, 255), 0, 0, 0));
+    changed[4] = 49;
+    expect("reach, capacity 49", fills(zombreki_reach(changed, length, 1), 0, 0, 1));
+    changed[19] = 33;
+    expect("reach, limit above 32", fills(zombreki_reach(changed, length, 1), 6, 3, 0));
+    expect("reach, a record short", fills(zombreki_reach(costs, length - 8, 1), 4, 0, 0));
+    expect("reach, none", fills(zombreki_reach(NULL, 0, 1), 1, 0, 0));
+}
+
 int main(int argc, char **argv)
 {
     uint8_t costs[249];
@@ -242,6 +261,7 @@ int main(int argc, char **argv)
     fills_costs(costs);
     fills_five_terms(costs);
     refuses_laws(costs);
+    finds_reaches(costs, length);
     if (failures)
         return 1;
     puts("calls: ok");

@@ -2,9 +2,9 @@
  * byte that is not as painted says how deep it went. What a function that does nothing takes on such a stack is subtracted, so
  * what counts is the call with its arguments and its answer, and all that is called from there.
  *
- * `stack FILE..` plans and judges each of these files of cost records, which have plans and two tasks at least, and fills in as
- * many records from its first part and laws. Prints a line for each service with the most that it took; prints what is wrong
- * and ends with 1. Stacks grow downwards here. */
+ * `stack FILE..` plans and judges each of these files of cost records, which have plans and two tasks at least, fills in as many
+ * records from its first part and laws, and finds the reach of each of its tasks. Prints a line for each service with the most
+ * that it took; prints what is wrong and ends with 1. Stacks grow downwards here. */
 #define _XOPEN_SOURCE 600
 #include <stdio.h>
 #include <string.h>
@@ -24,7 +24,8 @@ static uint32_t work[ZOMBREKI_WORK_WORDS];
 static struct zombreki_answer answer;
 static struct laws laws;
 static uint8_t out[LARGEST];
-static struct zombreki_filled filled;
+static struct zombreki_filled filled, reached;
+static uint8_t first;
 static int failures;
 
 static void do_nothing(void)
@@ -51,6 +52,11 @@ static void call_fill(void)
     filled = zombreki_fill_costs(costs.bytes, first_part(&costs), laws.bytes, laws.length, out, sizeof out);
 }
 
+static void call_reach(void)
+{
+    reached = zombreki_reach(costs.bytes, costs.length, first);
+}
+
 /* A service, and the most bytes that a call of it took. */
 struct service {
     const char *name;
@@ -61,6 +67,7 @@ static struct service judge = {"zombreki_judge", call_judge, 0};
 static struct service greedy = {"zombreki_greedy_plan", call_greedy, 0};
 static struct service best = {"zombreki_best_plan", call_best, 0};
 static struct service fill = {"zombreki_fill_costs", call_fill, 0};
+static struct service reach = {"zombreki_reach", call_reach, 0};
 
 /* The bytes from the top of a stack in this paint down to the lowest that the call changed; all of them if it did not run. */
 static size_t depth_in(uint8_t paint, void (*call)(void))
@@ -127,6 +134,16 @@ static void fills(void)
     expect(&fill, "not filled in", filled.refusal == 0 && filled.count == costs.length);
 }
 
+/* Each task is within the reach of its own: by itself it fits wherever the plan has it. */
+static void reaches(void)
+{
+    uint8_t tasks = costs.bytes[3] < MOST_TASKS ? costs.bytes[3] : MOST_TASKS;
+    for (first = 1; first <= tasks; first++) {
+        measure(&reach);
+        expect(&reach, "no reach", reached.refusal == 0 && reached.count >= first && reached.count <= tasks);
+    }
+}
+
 static void bounded(const struct service *service)
 {
     printf("stack: %s takes %zu bytes\n", service->name, service->most);
@@ -148,10 +165,12 @@ int main(int argc, char **argv)
         for (grouping = 0; grouping < 2; grouping++)
             plans(&greedy);
         fills();
+        reaches();
     }
     bounded(&judge);
     bounded(&greedy);
     bounded(&best);
     bounded(&fill);
+    bounded(&reach);
     return failures != 0;
 }

@@ -1,6 +1,7 @@
 //! Cost files from seeds, in kinds that each press on one part of the model.
 
 pub mod laws;
+mod memory;
 mod times;
 
 use crate::costs::{self, Chain, MOST_CORES};
@@ -30,9 +31,11 @@ pub enum Kind {
     Limits,
     /// Core limits that are what the memory of a few neighbouring tasks asks for, or a little beside it.
     TightLimits,
+    /// Some neighbouring tasks need just the memory of the whole board or a KiB more; others from nothing to a KiB more than it has.
+    Reaches,
 }
 
-pub const KINDS: [Kind; 11] = [
+pub const KINDS: [Kind; 12] = [
     Kind::Random,
     Kind::Ties,
     Kind::Zeros,
@@ -44,6 +47,7 @@ pub const KINDS: [Kind; 11] = [
     Kind::Hidden,
     Kind::Limits,
     Kind::TightLimits,
+    Kind::Reaches,
 ];
 
 /// A file with what it was made from.
@@ -53,7 +57,7 @@ pub struct Case {
     pub costs: Vec<u8>,
 }
 
-/// A file small enough for trying all plans; the seed fixes it, and each eleven seeds in turn cover all kinds.
+/// A file small enough for trying all plans; the seed fixes it, and each twelve seeds in turn cover all kinds.
 pub fn small(seed: u64) -> Case {
     let mut random = Random::new(seed);
     let (tasks, cores) = small_size(&mut random);
@@ -88,33 +92,10 @@ fn chain(kind: Kind, tasks: usize, cores: usize, random: &mut Random) -> Chain {
         Kind::Hidden => times::set_hidden(&mut chain, random),
         _ => times::set_drawn(&mut chain, kind, random),
     }
-    set_memory(&mut chain, kind, random);
+    memory::set(&mut chain, kind, random);
     set_flags(&mut chain, kind, random);
     set_limits(&mut chain, kind, random);
     chain
-}
-
-/// Needs that add up to a share of the board's memory: all of it or a little less, more than it, or some or none of it.
-fn set_memory(chain: &mut Chain, kind: Kind, random: &mut Random) {
-    let scale = random.pick(&[1, 1_000]);
-    let capacity = random.within(1, 30);
-    let board = chain.cores * capacity;
-    let total = match kind {
-        Kind::TightMemory => board - random.below(board.min(4)),
-        Kind::NoPlan => board,
-        Kind::Hidden => 0,
-        Kind::TightLimits => board / 3 + random.below(board / 2 + 1),
-        _ if random.once_in(3) => 0,
-        _ => random.below(board * 2 / 3 + 1),
-    };
-    chain.capacity = capacity as u32 * scale;
-    for _ in 0..total {
-        chain.needs[random.below(chain.tasks)] += scale;
-    }
-    if kind == Kind::NoPlan {
-        let extra = random.pick(&[1, 1, 2, scale]);
-        chain.needs[random.below(chain.tasks)] += extra;
-    }
 }
 
 /// Half of the tasks are replicable where cores are to count more than copies; else most of them or all.

@@ -104,6 +104,21 @@ fn expect_same<T: PartialEq + Debug>(
     Err(Difference { service, what })
 }
 
+/// The same for an answer whose parts, refusal, place and count, have these names.
+fn expect_same_parts(
+    parts: [&'static str; 3],
+    expected: Filled,
+    found: Filled,
+    name: impl Fn() -> String,
+) -> Result<(), Difference> {
+    let due = [expected.refusal, expected.place, expected.count];
+    let given = [found.refusal, found.place, found.count];
+    for (i, part) in parts.into_iter().enumerate() {
+        expect_same(part, &[due[i]], &[given[i]], &name)?;
+    }
+    Ok(())
+}
+
 /// Judge, with whatever plan bytes; the answer of both.
 pub fn judge(both: &Both, plan: &[u8]) -> Result<Answer, Difference> {
     let answer = both.expected.judge(plan);
@@ -163,17 +178,25 @@ pub fn fill_costs(
     let filled = (expected.fill_costs)(head, laws, lent_in(room, &mut out));
     let found_filled = (found.fill_costs)(&found_head, &found_laws, lent_in(room, &mut found_out));
     let name = |what: &str| format!("{what}, with {room} bytes lent");
-    for (service, due, given) in [
-        ("fill costs: refusal", filled.refusal, found_filled.refusal),
-        ("fill costs: place", filled.place, found_filled.place),
-        ("fill costs: count", filled.count, found_filled.count),
-    ] {
-        expect_same(service, &[due], &[given], || name("answer"))?;
-    }
+    let parts = [
+        "fill costs: refusal",
+        "fill costs: place",
+        "fill costs: count",
+    ];
+    expect_same_parts(parts, filled, found_filled, || name("answer"))?;
     expect_same("fill costs: output", &out, &found_out, || name(OUT_NAME))?;
     expect_same("fill costs", head, &found_head, || name("first part"))?;
     expect_same("fill costs", laws, &found_laws, || name("laws"))?;
     Ok((filled, lent_in(room, &mut out).to_vec()))
+}
+
+/// The reach of a first task; the answer of both. A difference names the first part of the answer in which it shows.
+pub fn reach(both: &Both, first: u8) -> Result<Filled, Difference> {
+    let (reached, found) = (both.expected.reach(first), both.found.reach(first));
+    let parts = ["reach: refusal", "reach: place", "reach: count"];
+    let name = || format!("answer on the first task {first}");
+    expect_same_parts(parts, reached, found, name)?;
+    Ok(reached)
 }
 
 /// Keeps the file and fails with the seed, the file's path and the difference.

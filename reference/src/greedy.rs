@@ -82,14 +82,21 @@ pub fn start_by(
     Ok(fewest)
 }
 
-/// The modules with the fewest cores that their memory allows, one more than the board has where that is not enough.
+/// The modules with the fewest cores that their memory allows.
 pub fn with_fewest_cores(chain: &Chain, mut modules: Vec<Module>) -> Vec<Module> {
     for module in &mut modules {
-        while !module.memory_fits(chain) && module.cores <= chain.cores {
-            module.cores += 1;
-        }
+        module.cores = fewest_cores(chain, *module);
     }
     modules
+}
+
+/// The fewest cores that the module's memory allows, one more than the board has where none of its cores do.
+pub fn fewest_cores(chain: &Chain, mut module: Module) -> usize {
+    module.cores = 1;
+    while !module.memory_fits(chain) && module.cores <= chain.cores {
+        module.cores += 1;
+    }
+    module.cores
 }
 
 /// Gives out the cores that are left, or ends before where nothing comes next; the earliest assignment of least bottleneck is

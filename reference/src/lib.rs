@@ -1,10 +1,10 @@
 //! A second planner of core plans, written from documents 01 (the scope) and 02 (the requests), to hold the static library
 //! against.
 //!
-//! `costs`, `plan`, `judge`, `greedy`, `every` and `laws` say what the services answer, in the most obvious way; `every` tries
-//! all plans. `threshold` and `filling` are the library's own ways in Rust and `paper` the dynamic program of source document
-//! 000. `cases` and `damage` make files and laws from seeds; `compare` and `round` tell two providers of the services apart.
-//! `written` reads the cases that are written as text.
+//! `costs`, `plan`, `judge`, `greedy`, `every`, `laws` and `reach` say what the services answer, in the most obvious way; `every`
+//! tries all plans. `threshold` and `filling` are the library's own ways in Rust and `paper` the dynamic program of source
+//! document 000. `cases` and `damage` make files and laws from seeds; `compare` and `round` tell two providers of the services
+//! apart. `written` reads the cases that are written as text.
 
 pub mod answer;
 pub mod cases;
@@ -20,6 +20,7 @@ pub mod library;
 pub mod paper;
 pub mod plan;
 pub mod random;
+pub mod reach;
 pub mod round;
 pub mod services;
 pub mod tally;

@@ -34,6 +34,7 @@ unsafe extern "C" {
         out: *mut u8,
         out_len: usize,
     ) -> Filled;
+    fn zombreki_reach(costs: *const u8, costs_len: usize, first: u8) -> Filled;
 }
 
 pub fn judge(costs: &[u8], plan: &[u8]) -> Answer {
@@ -82,10 +83,17 @@ pub fn fill_costs(head: &[u8], laws: &[u8], out: &mut [u8]) -> Filled {
     }
 }
 
+pub fn reach(costs: &[u8], first: u8) -> Filled {
+    // SAFETY: pointer and length are those of a live slice, which may be read.
+    unsafe { zombreki_reach(costs.as_ptr(), costs.len(), first) }
+}
+
 #[cfg(test)]
 mod tests {
     use super::*;
     use crate::answer::Refusal;
+    use crate::cases::constant;
+    use crate::costs::{self, Chain};
     use crate::laws::Law;
     use std::ptr::{null, null_mut};
 
@@ -104,9 +112,14 @@ mod tests {
             assert_eq!((answer.refusal, answer.place), (1, 0));
         }
         // SAFETY: the same.
-        let filled = unsafe { zombreki_fill_costs(null(), 0, null(), 0, null_mut(), 0) };
-        let refused = Refusal::new(1).into();
-        assert_eq!(filled, refused);
+        let filled = unsafe {
+            [
+                zombreki_fill_costs(null(), 0, null(), 0, null_mut(), 0),
+                zombreki_reach(null(), 0, 0),
+                zombreki_reach(null(), 0, 1),
+            ]
+        };
+        assert_eq!(filled, [Refusal::new(1).into(); 3]);
     }
 
     #[test]
@@ -124,5 +137,21 @@ mod tests {
         let (head, law) = (&costs[..16], Law::Constant(5).encode(3, 1));
         assert_eq!(fill_costs(head, &[], &mut []).refusal, 17);
         assert_eq!(fill_costs(head, &law, &mut []).refusal, 19);
+    }
+
+    /// Two tasks that need 2 and 1 on one core of 2: each by itself, not both.
+    #[test]
+    fn reaches_of_accepted_costs() {
+        let costs = costs::write(&Chain {
+            capacity: 2,
+            needs: vec![2, 1],
+            ..constant(2, 1, 5)
+        });
+        let reached = |first| reach(&costs, first);
+        let due = |count| Filled {
+            count,
+            ..Filled::default()
+        };
+        assert_eq!([0, 1, 2, 3, 255].map(reached), [0, 1, 2, 0, 0].map(due));
     }
 }

@@ -48,52 +48,83 @@ fn medians(runs: &mut [Box<dyn FnMut() + '_>]) -> Vec<f64> {
     times.iter().map(|times| times[RUNS / 2]).collect()
 }
 
-/// The search on a cost file, again and again in the same buffers.
-fn repeated<'a>(costs: &'a [u8], search: &'a Search) -> Box<dyn FnMut() + 'a> {
+/// So many searches of a cost file, in the same buffers.
+fn repeated<'a>(costs: &'a [u8], search: &'a Search, searches: usize) -> Box<dyn FnMut() + 'a> {
     let (mut plan, mut work) = (vec![0; PLAN_BYTES], vec![0; WORK_WORDS]);
-    Box::new(move || search(black_box(costs), &mut plan, &mut work))
+    Box::new(move || (0..searches).for_each(|_| search(black_box(costs), &mut plan, &mut work)))
 }
 
-/// Realistic costs, then adversarial ones: without memory needs and core limits nothing cuts the search short.
+/// Costs without memory needs and core limits, by which nothing cuts a search short.
+fn unlimited(kind: Kind, tasks: usize, cores: usize) -> Chain {
+    let case = cases::sized(kind, tasks, cores, 7);
+    let chain = costs::read(&case.costs).expect("an accepted file");
+    Chain {
+        needs: vec![0; tasks],
+        flags: vec![true; tasks],
+        limits: vec![None; tasks],
+        ..chain
+    }
+}
+
+/// Realistic costs, then adversarial ones.
 fn files(tasks: usize, cores: usize) -> Vec<(&'static str, Chain)> {
-    let unlimited = |kind| {
-        let case = cases::sized(kind, tasks, cores, 7);
-        let chain = costs::read(&case.costs).expect("an accepted file");
-        Chain {
-            needs: vec![0; tasks],
-            flags: vec![true; tasks],
-            limits: vec![None; tasks],
-            ..chain
-        }
-    };
+    let realistic = unlimited(Kind::Realistic, tasks, cores);
     // a module of two tasks needs three cores
     let limited = Chain {
         capacity: 100,
         needs: vec![150; tasks],
-        ..unlimited(Kind::Realistic)
+        ..realistic.clone()
     };
     vec![
         ("realistic, memory limits", limited),
-        ("realistic", unlimited(Kind::Realistic)),
-        ("not monotone", unlimited(Kind::NotMonotone)),
-        ("one plan hidden", unlimited(Kind::Hidden)),
+        ("realistic", realistic),
+        ("not monotone", unlimited(Kind::NotMonotone, tasks, cores)),
+        ("one plan hidden", unlimited(Kind::Hidden, tasks, cores)),
         ("all equal", cases::constant(tasks, cores, 1_000)),
     ]
 }
 
+/// Costs of the largest board whose memory allows modules of at most three tasks (document 02, M-102). They have no plan, so that
+/// a search is one table.
+fn short_files() -> [(&'static str, Chain); 2] {
+    let with = |needs| Chain {
+        capacity: 1,
+        needs,
+        ..unlimited(Kind::Realistic, MOST_TASKS, MOST_CORES)
+    };
+    // every fourth task needs more than the board has, the others nothing; or three tasks need 30 cores
+    let walls = [0, 0, 0, MOST_CORES as u32 + 1].repeat(MOST_TASKS / 4);
+    [
+        ("three tasks and a wall", with(walls)),
+        ("three tasks, all alike", with(vec![10; MOST_TASKS])),
+    ]
+}
+
+/// A run makes so many searches of a file without a plan, since one takes a fraction of a millisecond.
+const SHORT_SEARCHES: usize = 50;
+
+/// The time of each search, and their ratios.
+fn print_row(name: &str, chain: &Chain, searches: &[Search], in_a_run: usize) {
+    let costs = costs::write(chain);
+    let mut runs: Vec<_> = searches
+        .iter()
+        .map(|search| repeated(&costs, search, in_a_run))
+        .collect();
+    let mut times = medians(&mut runs);
+    times.iter_mut().for_each(|time| *time /= in_a_run as f64);
+    print!("{:>5} {:>5}  {name:<24}", chain.tasks, chain.cores);
+    times.iter().for_each(|time| print!(" {time:>10.3}"));
+    print!("{}", " ".repeat(11 * (4 - times.len())));
+    print!(" {:>11.2}", times[0] / times[1]);
+    times[2..]
+        .iter()
+        .for_each(|time| print!(" {:>11.2}", time / times[0]));
+    println!();
+}
+
 fn print_rows(tasks: usize, cores: usize, searches: &[Search]) {
     for (name, chain) in files(tasks, cores) {
-        let costs = costs::write(&chain);
-        let mut runs: Vec<_> = searches.iter().map(|s| repeated(&costs, s)).collect();
-        let times = medians(&mut runs);
-        print!("{tasks:>5} {cores:>5}  {name:<24}");
-        times.iter().for_each(|time| print!(" {time:>10.3}"));
-        print!("{}", " ".repeat(11 * (4 - times.len())));
-        print!(" {:>11.2}", times[0] / times[1]);
-        times[2..]
-            .iter()
-            .for_each(|time| print!(" {:>11.2}", time / times[0]));
-        println!();
+        print_row(name, &chain, searches, 1);
     }
 }
 
@@ -141,7 +172,7 @@ fn print_filling() {
 const NOTES: &str = "\
 Reading the file is included, and so is the clearing of buffers: library and threshold clear the whole work area of 16,384
 words before and after the search. threshold is the library's search in Rust; paper finds the bottleneck only, in tables of
-its own, megabytes at 32 cores; every tries all plans.";
+its own, megabytes at 32 cores; every tries all plans. The two files of three tasks have no plan: a search is one table.";
 
 fn main() {
     println!("Best plan: medians of {RUNS} runs in milliseconds, one run of each search in turn.");
@@ -150,7 +181,10 @@ fn main() {
         "tasks cores  {:<24} {:>10} {:>10} {:>10} {:>10} {:>11} {:>11} {:>11}",
         "costs", "library", "threshold", "paper", "every", "lib/thresh.", "paper/lib", "every/lib"
     );
-    print_rows(12, 32, &[LIBRARY, THRESHOLD, PAPER]);
+    print_rows(MOST_TASKS, MOST_CORES, &[LIBRARY, THRESHOLD, PAPER]);
+    for (name, chain) in short_files() {
+        print_row(name, &chain, &[LIBRARY, THRESHOLD], SHORT_SEARCHES);
+    }
     print_rows(8, 16, &[LIBRARY, THRESHOLD, PAPER]);
     print_rows(5, 10, &[LIBRARY, THRESHOLD, PAPER, EVERY]);
     print_filling();

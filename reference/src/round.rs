@@ -1,6 +1,7 @@
 //! All services on one file, accepted or damaged, compared, with a count of what was met.
 
 pub mod laws;
+pub mod reaches;
 
 use crate::answer::Answer;
 use crate::cases::Case;
@@ -11,7 +12,7 @@ use crate::plan::PLAN_BYTES;
 use crate::random::Random;
 use crate::tally::Tally;
 
-/// Best plan; Judge on its plan; the greedy plan with every grouping, and Judge on each; Judge on some random plans.
+/// Best plan; Judge on its plan; the greedy plan with every grouping, and Judge on each; Judge on some random plans; the reaches.
 pub fn all(both: &Both, case: &Case, tally: &mut Tally) -> Result<(), Difference> {
     let mut random = Random::new(!case.seed);
     let lent = Lent {
@@ -29,7 +30,7 @@ pub fn all(both: &Both, case: &Case, tally: &mut Tally) -> Result<(), Difference
         let answer = compare::judge(both, &plan)?;
         count("judge", answer, tally);
     }
-    Ok(())
+    reaches::all(both, case, &mut random, tally)
 }
 
 /// Every grouping that the chain has, then one with each bit that it has not.
@@ -81,7 +82,7 @@ pub fn damaged(both: &Both, random: &mut Random, tally: &mut Tally) -> Result<()
     plan.resize(lent.plan, 255);
     let answer = compare::judge(both, &plan)?;
     count("judge", answer, tally);
-    Ok(())
+    reaches::damaged(both, random, tally)
 }
 
 /// Counts the refusal, or what is particular about the figures.

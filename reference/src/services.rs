@@ -2,7 +2,7 @@
 
 use crate::answer::{Answer, Filled};
 use crate::costs::Chain;
-use crate::{every, greedy, judge, laws, library, threshold};
+use crate::{every, greedy, judge, laws, library, reach, threshold};
 
 /// A provider of document 01's three services, and of document 02's.
 #[derive(Clone, Copy)]
@@ -12,6 +12,8 @@ pub struct Services {
     pub best_plan: fn(&[u8], &mut [u8], &mut [u32]) -> Answer,
     /// First part, laws, output.
     pub fill_costs: fn(&[u8], &[u8], &mut [u8]) -> Filled,
+    /// Costs, first task.
+    pub reach: fn(&[u8], u8) -> Filled,
 }
 
 /// What the services are to answer; its Best plan tries all plans and is for small files.
@@ -20,6 +22,7 @@ pub const REFERENCE: Services = Services {
     greedy_plan: greedy::greedy_plan,
     best_plan: every::best_plan,
     fill_costs: laws::fill_costs,
+    reach: reach::reach,
 };
 
 /// The same for files of any size, with the threshold search.
@@ -34,21 +37,23 @@ pub const LIBRARY: Services = Services {
     greedy_plan: library::greedy_plan,
     best_plan: library::best_plan,
     fill_costs: library::fill_costs,
+    reach: library::reach,
 };
 
 impl Services {
-    /// Its three services on these bytes.
+    /// Its services on these bytes.
     pub fn on(self, costs: &[u8]) -> OnBytes<'_> {
         let services = self;
         OnBytes { services, costs }
     }
 }
 
-/// Document 01's three services on costs that are settled.
+/// The services on costs that are settled: document 01's three, and the reach of a first task.
 pub trait Planner {
     fn judge(&self, plan: &[u8]) -> Answer;
     fn greedy_plan(&self, grouping: u16, plan: &mut [u8]) -> Answer;
     fn best_plan(&self, plan: &mut [u8], work: &mut [u32]) -> Answer;
+    fn reach(&self, first: u8) -> Filled;
 }
 
 /// A provider and the bytes of cost records, accepted or not.
@@ -69,6 +74,10 @@ impl Planner for OnBytes<'_> {
     fn best_plan(&self, plan: &mut [u8], work: &mut [u32]) -> Answer {
         (self.services.best_plan)(self.costs, plan, work)
     }
+
+    fn reach(&self, first: u8) -> Filled {
+        (self.services.reach)(self.costs, first)
+    }
 }
 
 /// The second planner without bytes of costs. A chain that has laws is planned from these.
@@ -83,5 +92,9 @@ impl Planner for Chain {
 
     fn best_plan(&self, plan: &mut [u8], work: &mut [u32]) -> Answer {
         every::best_plan_on(self, plan, work)
+    }
+
+    fn reach(&self, first: u8) -> Filled {
+        reach::reach_on(self, first)
     }
 }

@@ -55,7 +55,7 @@ enum Costs {
     Laws(Lawful),
 }
 
-/// A case of document 01's three services, understood.
+/// A case of the services on cost records, understood.
 #[derive(Debug)]
 struct Planned {
     costs: Costs,
@@ -116,6 +116,7 @@ mod tests {
     #[test]
     fn a_right_line_passes() {
         assert_eq!(run(RIGHT), Ok(()));
+        assert_eq!(run("small dock: reach of task 1 => reach 2"), Ok(()));
     }
 
     /// Each number of a right line, changed, is a case that fails.
@@ -133,6 +134,11 @@ mod tests {
             "small dock: judge 1 2 1 1 => refusal 14",
             "small dock: read => refusal 4",
             "small dock, capacity = 0: read => accepted",
+            "small dock: reach of task 1 => reach 1",
+            "small dock: reach of task 3 => reach 2",
+            "small dock: reach of task 3 => refusal 5",
+            "small dock, capacity = 0: reach of task 1 => reach 0",
+            "small dock, flag of task 2 = 2: reach of task 1 => refusal 6, place 2",
             "every law 0, k = 1, P = 1: fill costs => 32 bytes",
             "every law 0, k = 1, P = 1: fill costs => refusal 19",
             "every law 0, k = 1, P = 1: fill costs => 24 bytes, execution of task 1 = 1",
@@ -171,6 +177,27 @@ mod tests {
             "small dock: bench way 1 with 7 words => refusal 10",
             "small dock: judge 1 2 2 2 => 1 modules, 4 cores, slowest 1, response 18, r 2",
             "small dock: judge 1 2 2 2  => 1 module, 4 cores, slowest 1, response 18, r 2",
+        ] {
+            assert!(parse(wrong).is_err(), "{wrong}");
+        }
+    }
+
+    #[test]
+    fn reaches_that_cannot_be_read_are_an_error() {
+        for wrong in [
+            "small dock: reach of task 256 => reach 0",
+            "small dock: reach of task => reach 0",
+            "small dock: reach => reach 0",
+            "small dock: reach of task 1 => 2",
+            "small dock: reach of task 1 => reach two",
+            "small dock: reach of task 1 => reach 2, place 1",
+            "small dock: reach of task 1 => accepted",
+            "small dock: reach of task 1 => 1 module, 4 cores, slowest 1, response 18, r 2",
+            "small dock: reach of task 1 into 48 bytes => reach 2",
+            "small dock: best plan => reach 2",
+            "small dock: judge 1 2 2 2 => reach 2",
+            "small dock: read => reach 2",
+            "small dock by laws: fill costs => reach 2",
         ] {
             assert!(parse(wrong).is_err(), "{wrong}");
         }

@@ -17,6 +17,7 @@ fn files() -> Vec<Case> {
         Kind::NoPlan,
         Kind::TightMemory,
         Kind::Limits,
+        Kind::Reaches,
     ];
     let mut files: Vec<Case> = kinds
         .into_iter()
@@ -103,7 +104,11 @@ fn costs_at_every_address() {
             let costs = &*lent_at(start, &mut longer);
             let both = Both::on(&REFERENCE, &LIBRARY, costs);
             let lent = Lent::enough(start as u64);
-            if let Err(difference) = compare::best_plan(&both, lent) {
+            let result = compare::best_plan(&both, lent).and_then(|_| {
+                compare::reach(&both, 1)?;
+                compare::reach(&both, 3)
+            });
+            if let Err(difference) = result {
                 compare::fail(case.seed, costs, &difference);
             }
         }

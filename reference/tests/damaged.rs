@@ -38,6 +38,11 @@ fn damaged_files() {
         tally.assert_at_least(&format!("{service}: refusal 7"), 500);
     }
     tally.assert_at_least("best plan: refusal 8", 500);
+    for refusal in 1..=6 {
+        tally.assert_at_least(&format!("reach: refusal {refusal}"), 500);
+    }
+    tally.assert_at_least("reach: a refusal with a place", 6_000);
+    tally.assert_at_least("reach: answered", 2_500);
 }
 
 /// A work area that is one word short spares the search where the file is accepted after all.
@@ -56,7 +61,8 @@ fn damaged_files_of_the_greatest_size() {
         let both = Both::on(&REFERENCE, &LIBRARY, &costs);
         let result = compare::best_plan(&both, lent).and_then(|_| {
             let plan = damage::random_plan(12, 32, &mut random);
-            compare::judge(&both, &plan)
+            compare::judge(&both, &plan)?;
+            round::reaches::damaged(&both, &mut random, &mut Tally::default())
         });
         if let Err(difference) = result {
             compare::fail(seed, &costs, &difference);
@@ -75,7 +81,9 @@ fn every_byte_of_a_file() {
             let plan = [1, 2, 1, 2].repeat(RECORDS);
             let both = Both::on(&REFERENCE, &LIBRARY, &changed);
             let result = compare::judge(&both, &plan)
-                .and_then(|_| compare::greedy_plan(&both, 1, Lent::enough(seed)));
+                .and_then(|_| compare::greedy_plan(&both, 1, Lent::enough(seed)))
+                .and_then(|_| compare::reach(&both, 1))
+                .and_then(|_| compare::reach(&both, 2));
             if let Err(difference) = result {
                 compare::fail(seed, &changed, &difference);
             }
@@ -105,7 +113,8 @@ fn every_limit_of_a_task() {
             let both = Both::on(&REFERENCE, &LIBRARY, &changed);
             let result = compare::best_plan(&both, lent).and_then(|_| {
                 compare::greedy_plan(&both, 0, lent)?;
-                compare::greedy_plan(&both, 1, lent)
+                compare::greedy_plan(&both, 1, lent)?;
+                compare::reach(&both, task as u8)
             });
             if let Err(difference) = result {
                 compare::fail(lent.seed, &changed, &difference);

@@ -12,7 +12,7 @@ use reference::round;
 use reference::services::{LIBRARY, QUICK_REFERENCE};
 use reference::tally::Tally;
 
-/// Best plan by all three searches, Judge on its plan, and the greedy plan with some groupings.
+/// Best plan by all three searches, Judge on its plan, the greedy plan with some groupings, and the reaches.
 fn check(case: &Case, tally: &mut Tally) -> Result<(), Difference> {
     let both = Both::on(&QUICK_REFERENCE, &LIBRARY, &case.costs);
     let lent = Lent::enough(case.seed);
@@ -28,7 +28,7 @@ fn check(case: &Case, tally: &mut Tally) -> Result<(), Difference> {
         round::count("greedy plan", answer, tally);
         compare::judge(&both, &plan)?;
     }
-    Ok(())
+    round::reaches::all(&both, case, &mut random, tally)
 }
 
 /// The answer's bottleneck equals, as a fraction, the least one of the dynamic program.
@@ -89,13 +89,23 @@ fn greatest_and_least_times() {
 
 #[test]
 fn sizes_between() {
-    let files = (0..198).map(|seed| {
+    let files = (0..216).map(|seed| {
         let mut random = Random::new(!seed);
         let (tasks, cores) = (random.within(4, 12), random.within(8, 20));
         let kind = KINDS[seed as usize % KINDS.len()];
         cases::sized(kind, tasks, cores, seed)
     });
     let tally = check_all("4 to 12 tasks, 8 to 20 cores", files);
-    tally.assert_at_least("best plan: figures", 150);
-    tally.assert_at_least("best plan: several modules", 60);
+    for (what, least) in [
+        ("best plan: figures", 150),
+        ("best plan: several modules", 60),
+        ("best plan: refusal 9", 20),
+        ("reach: 0", 8),
+        ("reach: the first task itself", 7),
+        ("reach: in the middle", 16),
+        ("reach: one short of k", 12),
+        ("reach: k", 800),
+    ] {
+        tally.assert_at_least(what, least);
+    }
 }

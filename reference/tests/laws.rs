@@ -89,6 +89,11 @@ fn filled_in_and_planned() {
         ("greedy plan: refusal 11", 40_000),
         ("judge: figures", 12_000),
         ("judge: several copies of the slowest", 1_500),
+        ("reach: 0", 300),
+        ("reach: the first task itself", 380),
+        ("reach: in the middle", 85),
+        ("reach: one short of k", 440),
+        ("reach: k", 17_000),
     ] {
         tally.assert_at_least(what, least);
     }

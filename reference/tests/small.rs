@@ -30,6 +30,29 @@ fn library_answers_as_the_reference() {
         assert_eq!(tally.count(&format!("kind {kind:?}")), OF_EACH_KIND);
     }
     assert_all_met(&tally);
+    assert_reaches_met(&tally);
+}
+
+/// Where the reaches are to end, each at least so often.
+fn assert_reaches_met(tally: &Tally) {
+    for (what, least) in [
+        ("reach: 0", 1_100),
+        ("reach: the first task itself", 1_400),
+        ("reach: in the middle", 300),
+        ("reach: one short of k", 1_700),
+        ("reach: k", 65_000),
+        ("reach: 0 after a positive one", 350),
+        ("reach: that of the task before", 45_000),
+        ("reach: all of the board", 2_600),
+        ("reach: a KiB short for the next task", 2_600),
+        ("reach: begins with a need of 0", 440),
+        ("reach: ends with a need of 0", 450),
+        ("reach: needs of 0 only", 24_000),
+        ("reach: over a limit", 3_600),
+        ("reach: not replicable", 18_000),
+    ] {
+        tally.assert_at_least(what, least);
+    }
 }
 
 /// What the files are to bring about, each at least so often.
@@ -98,7 +121,7 @@ fn ends_early(chain: &Chain, start: Vec<Module>) -> bool {
 #[test]
 fn limits_decide() {
     let mut tally = Tally::default();
-    let files = (0..11_000).map(cases::small);
+    let files = (0..12_000).map(cases::small);
     for case in files.filter(|case| matches!(case.kind, Kind::Limits | Kind::TightLimits)) {
         let chain = costs::read(&case.costs).expect("an accepted file");
         let unlimited = Chain {

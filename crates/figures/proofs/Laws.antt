@@ -1,5 +1,5 @@
--- What holds of plans (document 01, "The chain and the board", "Plan bytes"): the laws that a reader looks for, and that the layers
--- above cite. The definitions are in specs/; `Claims` has the direct statements. Assumes nothing.
+-- What holds of plans (document 01, "The chain and the board", "Plan bytes"; document 02, M-102): the laws that a reader looks for, and
+-- that the layers above cite. The definitions are in specs/; `Claims` has the direct statements. Assumes nothing.
 use mathlib.Core.Path.{_≡_, refl}
 use mathlib.Core.Bool.{true}
 use mathlib.Core.List.{List, _∷_, List·Memᴰ}
@@ -12,6 +12,7 @@ use Rattle.records.specs.Costs.{mostCores, mostValue}
 use Rattle.records.specs.Format.{IsCosts}
 use Rattle.modules.specs.declared.Module.{Module}
 use Rattle.modules.specs.Model.{Chain, chainOf}
+use Rattle.modules.specs.Reach.{reach}
 use Rattle.layout.specs.Layout.{mostModules, planBytes, modulesOf, encodePlan}
 use Rattle.layout.proofs.Placing as placing
 use Rattle.figures.specs.declared.Slowest.{Slowest}
@@ -22,6 +23,7 @@ use Rattle.figures.proofs.Bounds as bounds
 use Rattle.figures.proofs.Covering as covering
 use Rattle.figures.proofs.Decoding as decoding
 use Rattle.figures.proofs.Kept as kept
+use Rattle.figures.proofs.Reaching as reaching
 use Rattle.figures.proofs.Tops as tops
 
 -- ---- plans that keep the rules of accepted costs: few modules, whose bytes say them again, and bounded responses
@@ -61,6 +63,11 @@ module _ (s : List ℕ) (b : Board) (c : IsCosts s b) (ms : List Module) (keeps 
         bounds.bottleneck-most (chainOf s b) mostValue (b .tasks) ms (bounds.costs-most s b c) covered,
         mul-le-mul-right {m = 2 * b .tasks - 1} {n = 23} mostValue (omega (arith, c .ranged .most-tasks)),
       )
+
+-- ---- M-102: no module of a plan that keeps the rules goes beyond its reach
+
+pub plan-reach : (c : Chain) (ms : List Module) → keepsRules c ms ≡ true → (m : Module) → List·Memᴰ m ms → m .last ≤ reach c (m .first)
+plan-reach = reaching.plan-reach
 
 -- ---- the bottleneck is the first module that reaches the greatest response ÷ copies
 

@@ -5,5 +5,6 @@ pub mod Fractions
 pub mod Kept
 pub mod Laws
 pub mod Listed
+pub mod Reaching
 pub mod Served
 pub mod Tops

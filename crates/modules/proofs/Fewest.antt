@@ -75,6 +75,19 @@ module _ (c : Chain) (first last : ℕ) where
   abbrev found : ℕ
   found = fewestCores c first last
 
+  pub fewest-some : 1 ≤ found
+  fewest-some = cores-found .after
+
+  pub fewest-most : found ≤ c .board + 1
+  fewest-most = omega (arith, cores-found .within)
+
+  -- on the board they hold the memory, and no count that holds it is below them
+  pub fewest-fits : found ≤ c .board → Fits found
+  fewest-fits h = cores-found .fits (omega arith)
+
+  pub fewest-low : (p : ℕ) → 1 ≤ p → Fits p → found ≤ p
+  fewest-low p a t = ⊎-elim (λ l. true-not-false (memoryFits c first last p) t (cores-found .none-below p a l)) (λ l. l) (lt-or-le p found)
+
   pub fewest-none : (found ≡ c .board + 1) ↔ ((p : ℕ) → 1 ≤ p → p ≤ c .board → TooFew p)
   fewest-none =
       let f = cores-found in (

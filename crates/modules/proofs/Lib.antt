@@ -5,4 +5,5 @@ pub mod Laws
 pub mod Left
 pub mod Lengthening
 pub mod Limiting
+pub mod Longest
 pub mod Sums

@@ -1,19 +1,21 @@
 -- The table of a chain as the planner computes it: what it reads depends on the board's size alone, the least over the copies is
--- one division, and last tasks past the first at which a module of one copy breaks a rule add nothing. By the search's laws at the
--- problem of a chain. Assumes nothing.
+-- one division, and last tasks past the first at which a module of one copy breaks a rule, or past its reach, add nothing. By the
+-- search's laws at the problem of a chain. Assumes nothing.
 use mathlib.Core.Path.{_≡_, refl, sym, _∙_}
 use mathlib.Core.Bool.{Bool, true, false, _&&_, _||_, and-true, or-comm}
 use mathlib.Core.List.{List}
+use mathlib.Core.Logic.{⊎-elim}
 use Prim.Native.Nat.{ℕ, suc, _+_, _-_, _*_, _≤_, _<_}
 use native.Mathlib.Nat.{le-refl, le-antisymm, mul-le-mul}
 use native.Mathlib.Omega.{arith}
 use lib.ListN.{length, set, length-set}
 use lib.Dec.{T, leb, leb→le, le→leb, not-T}
 use Rattle.records.specs.declared.Board.{Board}
-use Rattle.records.proofs.Cases.{true-not-false, false-unless}
+use Rattle.records.proofs.Cases.{lt-or-le, true-not-false, false-unless}
 use Rattle.modules.specs.Model.{Chain, response, transfer, body}
 use Rattle.modules.specs.Rules.{moduleRules, copiesAllowed}
-use Rattle.modules.proofs.Laws.{rules-drop, rules-apart}
+use Rattle.modules.specs.Reach.{reach}
+use Rattle.modules.proofs.Laws.{rules-drop, rules-apart, rules-reach}
 use Rattle.search.specs.Least.{pick, lesser, least}
 use Rattle.search.specs.Copies.{loadOf, fewest}
 use Rattle.search.specs.Plan.{cap}
@@ -26,8 +28,9 @@ use Rattle.search.proofs.Flat.{small-set}
 use Rattle.search.proofs.Loops.{overCopies-none}
 use Rattle.search.proofs.Cheapest.{overCopies-at}
 use Rattle.search.proofs.Plain.{plain-cap, plain-rises}
-use Rattle.planners.specs.Search.{grain, problem, ofSize, Sized, Holds, Loaded}
+use Rattle.planners.specs.Search.{grain, problem, ofSize, Sized, Holds, Reached, Loaded}
 use Rattle.planners.proofs.Instance.{problem-plain}
+use Rattle.planners.proofs.Fitting.{reached-inside}
 
 -- ---- the size of the board
 
@@ -73,11 +76,10 @@ pub one-rules : (c : Chain) (first last r p : ℕ) → moduleRules c first last 
 one-rules c first last r p e = rules-apart c first last r p ∙ rw (e, and-true)
 
 -- what is known of it once it is summed up and two copies are asked for
-pub loaded : {c : Chain} {s t q l received stay : ℕ} {rep : Bool} → t < l → l ≤ c .tasks → moduleRules c (t + 1) l 1 q ≡ true → received ≡ transfer c t s q
+pub loaded : {c : Chain} {s t q l received stay : ℕ} {rep : Bool} → Reached c t l → moduleRules c (t + 1) l 1 q ≡ true → received ≡ transfer c t s q
     → received < 4294967296 → (stay ≡ body c (t + 1) l q) × (stay < 4398046511104) → rep ≡ copiesAllowed c (t + 1) l 2 → Loaded c s t q l (received + stay) rep
-loaded {c} {s} {t} {q} {l} later inside keeps a low b copies = record {
-  later = later;
-  inside = inside;
+loaded {c} {s} {t} {q} {l} reached keeps a low b copies = record {
+  reached = reached;
   keeps = keeps;
   taken = omega (arith, a, b .0);
   low = omega arith;
@@ -103,7 +105,7 @@ module _ {c : Chain} {s t q l base : ℕ} {rep : Bool} (h : Loaded c s t q l bas
   cheapest =
       let a = (base + sent) * grain in
       rw (← (chain-cap c), is-fewest)
-      (overCopies-at (problem c) n s t q l q′ true rep a a allows loads (h .later) (h .inside) some (le-refl a) rest
+      (overCopies-at (problem c) n s t q l q′ true rep a a allows loads (h .reached .later) (reached-inside (h .reached)) some (le-refl a) rest
       (λ i j. plain-rises (problem c) (problem-plain c) s t l i j q q′))
 
   -- no number of copies is enough, or there is no room for the fewest
@@ -138,3 +140,12 @@ module _ (c : Chain) (n s t q : ℕ) (rest : Table) where
   last-stop l m h e d = d ∙ sym (least-stop (cap (problem c)) l (suc (c .tasks)) _ (omega arith) (λ i a b.
       rw (next-unfit i (false-unless (moduleRules c (t + 1) i 1 q) (λ u. rules-drop c (t + 1) i (t + 1) l (le-refl (t + 1)) a 1 q u) (λ v. true-not-false (moduleRules c (t + 1) l 1 q) v e)))
       (least-cap (cap (problem c)) l _)))
+
+  -- nor of one beyond the reach, at any cores of the board (M-102)
+  pub last-beyond : (l m : ℕ) → l ≤ c .tasks + 1 → t < l → reach c (t + 1) < l → 1 ≤ q → q ≤ c .board
+      → m ≡ least (cap (problem c)) l (overNext (problem c) (fitsAt (problem c) n) rest s t q) → m ≡ overLast (problem c) (fitsAt (problem c) n) rest s t q
+  unfolding overLast
+  last-beyond l m inside later beyond some few e = ⊎-elim
+      (λ h. let d : l ≡ suc (c .tasks) = omega arith in e ∙ rw d)
+      (λ h. last-stop l m h (false-unless (moduleRules c (t + 1) l 1 q) (λ u. rules-reach c (t + 1) l (omega arith) (omega arith) h 1 q some few u) (λ v. omega arith)) e)
+      (lt-or-le (c .tasks) l)

@@ -3,14 +3,21 @@
 use mathlib.Core.Path.{_≡_, _∙_}
 use mathlib.Core.Bool.{Bool, true, false, not, and-true}
 use Prim.Native.Nat.{ℕ, _+_, _*_, _≤_, _<_}
+use native.Mathlib.Nat.{mul-le-mul-right}
+use native.Mathlib.Omega.{arith}
 use lib.Dec.{leb}
 use borrow.Author.Tests.{lt-ltb, le-leb, ltb-true, leb-true, not-true, not-false}
 use Rattle.records.proofs.Cases as cases
 use Rattle.records.proofs.Cases.{false-unless, true-not-false}
 use Rattle.modules.specs.Model.{Chain, response}
 use Rattle.modules.specs.Rules.{moduleRules}
+use Rattle.modules.proofs.Laws.{reach-inside, rules-reach}
 use Rattle.search.specs.Best.{fitsAt}
-use Rattle.planners.specs.Search.{grain, problem}
+use Rattle.planners.specs.Search.{grain, problem, Reached}
+
+-- a module that ends within its reach ends in the chain
+pub reached-inside : {c : Chain} {t l : ℕ} → Reached c t l → l ≤ c .tasks
+reached-inside {c} {t} h = omega (arith, h .within, reach-inside c (t + 1))
 
 module _ (c : Chain) (n s t l r p q : ℕ) where
   -- the module of tasks t + 1 to l fits between modules of s and q cores
@@ -41,6 +48,12 @@ module _ (c : Chain) (n s t l r p q : ℕ) where
         room = leb-true _ _ (h₆ .1);
       }
 
+  -- it ends within its reach (M-102)
+  pub fits-reached : Fits → Reached c t l
+  fits-reached f =
+      let few = mul-le-mul-right {m = 1} {n = r} p (f .some-copies) in
+      record { later = f .later; within = rules-reach c (t + 1) l (omega arith) (omega (arith, f .later)) (f .inside) r p (f .some-cores) (omega (arith, f .room)) (f .keeps) }
+
   pub fits-not : (Fits → ⊥) → fitsAt (problem c) n s t l r p q ≡ false
   fits-not h = false-unless (fitsAt (problem c) n s t l r p q) fits-facts h
 
@@ -48,7 +61,7 @@ module _ (c : Chain) (n s t l r p q : ℕ) where
   fits-kept-not {x} e h = fits-not (λ f. true-not-false x (e ∙ f .keeps) (not-true x h))
 
   -- where all else holds, it is the threshold that decides
-  pub fits-within : {x : Bool} {y : ℕ} → t < l → l ≤ c .tasks → 1 ≤ r → 1 ≤ p → x ≡ moduleRules c (t + 1) l r p → not x ≡ false → s + r * p + q ≤ c .board
+  pub fits-within : {x : Bool} {y : ℕ} → Reached c t l → 1 ≤ r → 1 ≤ p → x ≡ moduleRules c (t + 1) l r p → not x ≡ false → s + r * p + q ≤ c .board
       → y ≡ response c s (t + 1) l r p q → leb (y * grain) (n * r) ≡ fitsAt (problem c) n s t l r p q
-  fits-within {x} later inside copies cores e h room d =
-      simp (lt-ltb t l later, le-leb l (c .tasks) inside, le-leb 1 r copies, le-leb 1 p cores, ← e, not-false x h, le-leb (s + r * p + q) (c .board) room, and-true, d)
+  fits-within {x} reached copies cores e h room d =
+      simp (lt-ltb t l (reached .later), le-leb l (c .tasks) (reached-inside reached), le-leb 1 r copies, le-leb 1 p cores, ← e, not-false x h, le-leb (s + r * p + q) (c .board) room, and-true, d)

@@ -1,6 +1,6 @@
 -- The walk's loop on plan bytes: what is laid is the bytes of the modules that the walk has passed, and the room after the last of them
 -- is what the code keeps of it. By the walk's laws at the problem of a chain. Assumes nothing.
-use mathlib.Core.Path.{_≡_, sym, ap, subst, _∙_, fun-ext}
+use mathlib.Core.Path.{_≡_, refl, sym, ap, subst, _∙_, fun-ext}
 use mathlib.Core.Bool.{true}
 use mathlib.Core.List.{List, [], _∷_, _++_}
 use Prim.Native.Nat.{ℕ, suc, _+_, _-_, _*_, _≤_, _<_}
@@ -22,9 +22,9 @@ use Rattle.search.proofs.Tests.{bool-eq, and-r}
 use Rattle.search.proofs.Find.{some-e}
 use Rattle.search.proofs.Steps.{walking-start, walking-end, chosen-bounds, chosen-passes, walking-next}
 use Rattle.planners.specs.declared.path.Passed.{Passed}
-use Rattle.planners.specs.Search.{problem, roomOf, SomeNext}
+use Rattle.planners.specs.Search.{problem, Reached, PassedReached, roomOf, SomeNext}
 use Rattle.planners.proofs.Cells.{chain-cap}
-use Rattle.planners.proofs.Coming.{read-choice}
+use Rattle.planners.proofs.Coming.{choice-reached, read-choice}
 use Rattle.planners.proofs.Instance.{problem-laws}
 
 -- before the first module, with that much left
@@ -49,6 +49,7 @@ module _ (c : Chain) (n : ℕ) where
     pub bytes : v ≡ encodePlan done
     pub count : length done ≡ i
     pub few : i ≤ m .last
+    pub reached : PassedReached c m
     pub walking : Walking (problem c) n done left (m .cores) (m .last) (roomOf c n m)
 
   pub laid-start : {cores : ℕ} {v : List ℕ} → cores ≡ light (problem c) n → cores ≤ c .board → v ≡ encodePlan [] → Laid (atStart (cores + 1)) 0 v
@@ -61,6 +62,7 @@ module _ (c : Chain) (n : ℕ) where
         bytes = b;
         count = omega arith;
         few = omega arith;
+        reached = record { passed = λ n. absurd (n refl) };
         walking = subst (Walking (problem c) n [] (c .tasks) 0 0) (fun-ext (λ q. sym same)) (walking-start (problem c) (problem-laws c) n (light-feasible e h));
       }
 
@@ -81,6 +83,9 @@ module _ (c : Chain) (n : ℕ) where
 
       next-passes : T (choice (problem c) (fitsAt (problem c) n) (tableAt (problem c) n) (m .cores) (m .last) (roomOf c n m) (next .last) (next .copies) (next .cores))
       next-passes = chosen-passes (problem c) (problem-laws c) n (laid .done) (m .cores) (m .last) (roomOf c n m) (laid .left) (laid .walking) more
+
+      next-reached : Reached c (m .last) (next .last)
+      next-reached = choice-reached c n (m .cores) (m .last) (tableAt (problem c) n) (roomOf c n m) (next .last) (next .copies) (next .cores) next-passes
 
       -- it may come, by the table that is read
       pub next-some : (w : List ℕ) → Filled (problem c) (fitsAt (problem c) n) w 0 → SomeNext c w n m
@@ -124,6 +129,7 @@ module _ (c : Chain) (n : ℕ) where
           bytes = b ∙ rw (laid .bytes) (put-bytes x (laid .done) i (laid .count) (omega (arith, laid .few)));
           count = simp length-append (omega (arith, laid .count));
           few = omega (arith, laid .few, next-later);
+          reached = record { passed = λ _. subst (λ y. Reached c (m .last) (y .last)) (sym is) next-reached };
           walking = subst (Walking (problem c) n (laid .done ++ (x ∷ [])) (laid .left - 1) (x .cores) (x .last)) room-after
               (subst (λ y. Walking (problem c) n (laid .done ++ (y ∷ [])) (laid .left - 1) (y .cores) (y .last)
               (roomAfter (problem c) (fitsAt (problem c) n) (m .cores) (m .last) (roomOf c n m) y)) (sym is)

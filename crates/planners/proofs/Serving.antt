@@ -1,7 +1,7 @@
 -- The search on a board's costs: a zeroed work area holds a table, and what is found, or that nothing is, is what the definition that
 -- tries every plan says; with it the service, refusal by refusal. Assumes nothing.
 use mathlib.Core.Path.{_≡_, refl, sym, ap, _∙_}
-use mathlib.Core.Bool.{false}
+use mathlib.Core.Bool.{true, false}
 use mathlib.Core.List.{List, _++_}
 use mathlib.Core.Option.{none, some}
 use Prim.Native.Nat.{ℕ, zero, suc, _≤_, _<_}
@@ -17,14 +17,16 @@ use Rattle.modules.specs.Model.{chainOf}
 use Rattle.layout.specs.Layout.{planBytes, modulesOf, encodePlan}
 use Rattle.figures.specs.declared.Answer.{Answer}
 use Rattle.figures.specs.Plan.{figuresOf, refusal}
+use Rattle.figures.specs.Rules.{keepsRules}
 use Rattle.figures.proofs.Kept.{keeps-parts}
 use Rattle.figures.proofs.Decoding.{decode-encode}
+use Rattle.figures.proofs.Laws.{plan-reach}
 use Rattle.search.specs.Plan.{cap}
 use Rattle.search.specs.Best.{light, plan, Feasible, Bottom}
 use Rattle.search.specs.Answer.{answer}
 use Rattle.search.proofs.Best.{plan-keeps}
 use Rattle.search.proofs.Answer.{finds}
-use Rattle.planners.specs.Search.{problem, topThreshold, Sized, Holds}
+use Rattle.planners.specs.Search.{problem, topThreshold, Sized, Holds, AllReached}
 use Rattle.planners.specs.Best.{workWords, isBetter, bestPlan, foundAnswer, foundBytes, begins, bestAnswer, bestBytes, bestWork}
 use Rattle.planners.proofs.Cells.{chain-cap, cells-few}
 use Rattle.planners.proofs.Instance.{problem-laws, problem-small, keeps-rules, better-decides, best-searched}
@@ -44,11 +46,12 @@ pub zeroed : (n : ℕ) {v : List ℕ} → v ≡ replicate n 0 → v ≡ replicat
 zeroed n e = e ∙ ap (λ (k : ℕ). replicate k 0) (sym (zeroed-length n e))
 
 module _ (s : List ℕ) (b : Board) (costs : IsCosts s b) where
+  pub sized : Sized b
+  sized = let r = costs .ranged in record { some-tasks = r .some-tasks; most-tasks = r .most-tasks; some-cores = r .some-cores; most-cores = r .most-cores }
+
   pub zero-holds : {w : List ℕ} → workWords ≤ length w → w ≡ replicate (length w) 0 → Holds b w
   zero-holds {w} h e =
-      let r = costs .ranged in
-      let size : Sized b = record { some-tasks = r .some-tasks; most-tasks = r .most-tasks; some-cores = r .some-cores; most-cores = r .most-cores } in
-      record { sized = size; long = omega (arith, cells-few size); low = λ j. omega (arith, ap (λ (v : List ℕ). getD v j 0) e, one-number (length w) j 0) }
+      record { sized = sized; long = omega (arith, cells-few sized); low = λ j. omega (arith, ap (λ (v : List ℕ). getD v j 0) e, one-number (length w) j 0) }
 
   -- no plan is within the greatest threshold
   module _ {v : ℕ} (e : v ≡ light (problem (chainOf s b)) topThreshold) (h : b .cores < v) where
@@ -73,12 +76,19 @@ module _ (s : List ℕ) (b : Board) (costs : IsCosts s b) where
         best-searched (chainOf s b) (costs .ranged .some-tasks)
         ∙ finds (problem (chainOf s b)) (problem-laws (chainOf s b)) (isBetter (chainOf s b)) (better-decides (chainOf s b) (costs .ranged .some-tasks)) (problem-small (chainOf s b) (costs .ranged .most-cores)) n feasible bottom
 
+    plan-kept : keepsRules (chainOf s b) (plan (problem (chainOf s b)) n) ≡ true
+    plan-kept = let c = chainOf s b in keeps-rules c (plan (problem c) n) (plan-keeps (problem c) (problem-laws c) n feasible)
+
     plan-said : modulesOf path (b .tasks) ≡ plan (problem (chainOf s b)) n
     plan-said =
         let c = chainOf s b in
         let ms = plan (problem c) n in
-        let k = keeps-parts c ms (keeps-rules c ms (plan-keeps (problem c) (problem-laws c) n feasible)) in
+        let k = keeps-parts c ms plan-kept in
         ap (λ (w : List ℕ). modulesOf w (b .tasks)) laid ∙ decode-encode (b .tasks) ms (costs .ranged .some-tasks) (costs .ranged .most-tasks) (k .0)
+
+    -- none of its modules goes beyond its reach (M-102)
+    pub plan-reached : AllReached (chainOf s b) (modulesOf path (b .tasks))
+    plan-reached = rw plan-said (record { each = plan-reach (chainOf s b) (plan (problem (chainOf s b)) n) plan-kept })
 
     pub plan-answer : {r : Answer} → r ≡ figuresOf (chainOf s b) (modulesOf path (b .tasks)) → r ≡ foundAnswer (chainOf s b) (bestPlan (chainOf s b))
     unfolding foundAnswer

@@ -1,7 +1,7 @@
 -- A chain as a problem of the search, and what the planner's own functions hand on. Assumes nothing.
 use Prim.Native.Nat.{ℕ, _+_, _*_, _≤_, _<_}
 use mathlib.Core.Path.{_≡_}
-use mathlib.Core.List.{List}
+use mathlib.Core.List.{List, List·Memᴰ}
 use mathlib.Core.Bool.{Bool, true, false, cond}
 use lib.ListN.{length, getD}
 use lib.Dec.{eqb}
@@ -9,6 +9,7 @@ use Rattle.records.specs.declared.Board.{Board}
 use Rattle.modules.specs.declared.Module.{Module}
 use Rattle.modules.specs.Model.{Chain, response, transfer, body}
 use Rattle.modules.specs.Rules.{moduleRules, copiesAllowed}
+use Rattle.modules.specs.Reach.{reach}
 use Rattle.search.specs.Least.{pick}
 use Rattle.search.specs.Plan.{Problem}
 use Rattle.search.specs.Walk.{Room, choice}
@@ -53,6 +54,27 @@ pub record Holds (b : Board) (w : List ℕ) : Type 0 where
   pub long : cells (ofSize (b .tasks) (b .cores)) ≤ length w
   pub low : (j : ℕ) → getD w j 0 ≤ b .cores + 1
 
+-- ---- M-102: no response is worked out for a module beyond its reach
+
+-- the module of the tasks t + 1 to l ends within the reach of its first task
+pub record Reached (c : Chain) (t l : ℕ) : Type 0 where
+  pub later : t < l
+  pub within : l ≤ reach c (t + 1)
+
+-- the reach of each task, that of task t + 1 at t
+pub record EachReach (c : Chain) (reaches : List ℕ) : Type 0 where
+  pub at : (t : ℕ) → t < c .tasks → getD reaches t 0 ≡ reach c (t + 1)
+
+-- the module that the walk has passed, where there is one, ends within its reach
+pub record PassedReached (c : Chain) (m : Passed) : Type 0 where
+  pub passed : (m .last ≡ 0 → ⊥) → Reached c (m .from) (m .last)
+
+-- every module of a plan ends within its reach
+pub record AllReached (c : Chain) (ms : List Module) : Type 0 where
+  pub each : (m : Module) → List·Memᴰ m ms → m .last ≤ reach c (m .first)
+
+-- ---- one module in its place
+
 -- a module of q cores after the task t and a module of s cores: it is on the board, and the threshold in range
 pub record Placed (b : Board) (n s t q : ℕ) : Type 0 where
   pub threshold : n ≤ topThreshold
@@ -60,11 +82,10 @@ pub record Placed (b : Board) (n s t q : ℕ) : Type 0 where
   pub some-cores : 1 ≤ q
   pub room : s + q ≤ b .cores
 
--- what is known of the module up to task l: in one copy it keeps the rules, what it takes before it sends, and whether it may have
--- copies
+-- what is known of the module up to task l: it ends within its reach, in one copy it keeps the rules, what it takes before it sends,
+-- and whether it may have copies
 pub record Loaded (c : Chain) (s t q l base : ℕ) (rep : Bool) : Type 0 where
-  pub later : t < l
-  pub inside : l ≤ c .tasks
+  pub reached : Reached c t l
   pub keeps : moduleRules c (t + 1) l 1 q ≡ true
   pub taken : base ≡ transfer c t s q + body c (t + 1) l q
   pub low : base < 17592186044416

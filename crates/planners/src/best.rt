@@ -4,11 +4,14 @@ ghost use Prim.Native.Nat.{_≤_};
 ghost use lib.ListN.{length, replicate};
 ghost use Rattle.records.specs.Format.{IsCosts};
 ghost use Rattle.modules.specs.Model.{chainOf};
-ghost use Rattle.layout.specs.Layout.{planBytes};
+ghost use Rattle.layout.specs.Layout.{planBytes, modulesOf};
+ghost use Rattle.figures.specs.Plan.{figuresOf};
 ghost use Rattle.planners.specs.Best.{workWords, bestPlan, foundAnswer, foundBytes, bestAnswer, bestBytes, bestWork};
+ghost use Rattle.planners.specs.Search.{AllReached};
 use crate::bisect::cores_within;
 use crate::bisect::least_threshold;
 use crate::path::lay_path;
+use crate::reaches::each_reach;
 use figures::Answer;
 use figures::refuse;
 use layout::PLAN_BYTES;
@@ -30,6 +33,14 @@ fn zero(work: &mut [u32])
     }
 }
 
+// The figures of a plan whose modules all end within their reach (document 02, M-102).
+fn figures_of(costs: &[u8], board: Board, plan: [u8; PLAN_BYTES]) -> Answer
+    requires { ⌜ AllReached (chainOf (now costs) board) (modulesOf plan (board .tasks)) ⌝ }
+    ensures { λ r. ⌜ r ≡ figuresOf (chainOf (now (costs .entry)) board) (modulesOf plan (board .tasks)) ⌝ }
+{
+    figures::figures(costs, board, &plan)
+}
+
 // The search on accepted costs: the plan's figures, or refusal 9. The work area is zero before and holds the tables.
 fn search(costs: &[u8], board: Board, plan: &mut [u8], work: &mut [u32]) -> Answer
     requires { ⌜ IsCosts (now costs) board × (planBytes ≤ length (now plan)) × (workWords ≤ length (now work)) × (now work ≡ replicate (length (now work)) 0) ⌝ }
@@ -38,16 +49,17 @@ fn search(costs: &[u8], board: Board, plan: &mut [u8], work: &mut [u32]) -> Answ
         × (length (now (work .exit)) ≡ length (now (work .entry))) ⌝ }
 {
     let most = board.cores as u32;
-    let some = cores_within(costs, board, work, TOP);
+    let reaches = each_reach(costs, board);
+    let some = cores_within(costs, board, reaches, work, TOP);
     if most < some {
         return refuse(9, 0);
     }
-    let n = least_threshold(costs, board, work, TOP);
-    let cores = cores_within(costs, board, work, n);
+    let n = least_threshold(costs, board, reaches, work, TOP);
+    let cores = cores_within(costs, board, reaches, work, n);
     let mut path = [0u8; PLAN_BYTES];
-    lay_path(costs, board, work, n, cores, &mut path);
+    lay_path(costs, board, reaches, work, n, cores, &mut path);
     put_plan(path, plan);
-    figures::figures(costs, board, &path)
+    figures_of(costs, board, path)
 }
 
 // Fills in the plan that comes before all others that keep the rules, or refuses. Afterwards the whole work area is zero, or

@@ -5,6 +5,7 @@
 mod best;
 mod bisect;
 mod path;
+mod reaches;
 mod table;
 
 pub use best::best_plan;

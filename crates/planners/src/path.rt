@@ -1,13 +1,14 @@
 // The walk: module by module, the first in module order after which the rest still fits in what is left.
 ghost use mathlib.Core.Path.{_≡_};
 ghost use mathlib.Core.List.{[]};
-ghost use Prim.Native.Nat.{_+_, _≤_, _<_};
+ghost use Prim.Native.Nat.{_≤_, _<_};
 ghost use Rattle.modules.specs.Model.{chainOf};
 ghost use Rattle.layout.specs.Layout.{encodePlan};
 ghost use Rattle.search.specs.Best.{fitsAt, light, tableAt, plan as planOf};
 ghost use Rattle.search.specs.Flat.{readTable, Filled};
 ghost use Rattle.search.specs.Walk.{choice as choiceOf, chosen, goesOn};
-ghost use Rattle.planners.specs.Search.{problem, topThreshold, Sized, Holds, roomOf, FirstCores, FirstCopies, SomeNext};
+ghost use Rattle.planners.specs.Search.{problem, topThreshold, Sized, Holds, Reached, EachReach, PassedReached, roomOf, FirstCores, FirstCopies, SomeNext};
+use crate::reaches::MOST_TASKS;
 use crate::table::GRAIN;
 use crate::table::read_table;
 use modules::Module;
@@ -23,17 +24,12 @@ pub(crate) struct Passed {
     pub left: u32,
 }
 
-// Whether the module of tasks t + 1 to l keeps the rules, is within n and has room, between modules of s and q cores.
+// Whether the module of tasks t + 1 to l, which ends within its reach, keeps the rules, is within n and has room, between modules of s
+// and q cores.
 fn fits_at(costs: &[u8], board: Board, n: u64, s: u8, t: u8, l: u8, r: u8, p: u8, q: u8) -> bool
-    requires { ⌜ Sized board × (n ≤ topThreshold) ⌝ }
+    requires { ⌜ Sized board × (n ≤ topThreshold) × Reached (chainOf (now costs) board) t l ⌝ }
     ensures { λ x. ⌜ x ≡ fitsAt (problem (chainOf (now (costs .entry)) board)) n s t l r p q ⌝ }
 {
-    if l <= t {
-        return false;
-    }
-    if board.tasks < l {
-        return false;
-    }
     if r < 1 {
         return false;
     }
@@ -59,7 +55,7 @@ fn fits_at(costs: &[u8], board: Board, n: u64, s: u8, t: u8, l: u8, r: u8, p: u8
 
 // What is left for a module of q cores and all after it, one more than its cores may be.
 fn room_of(costs: &[u8], board: Board, n: u64, m: Passed, q: u8) -> u32
-    requires { ⌜ Sized board × (n ≤ topThreshold) ⌝ }
+    requires { ⌜ Sized board × (n ≤ topThreshold) × PassedReached (chainOf (now costs) board) m ⌝ }
     ensures { λ r. ⌜ r ≡ roomOf (chainOf (now (costs .entry)) board) n m q ⌝ }
 {
     if m.last == 0 {
@@ -95,7 +91,7 @@ fn goes_on(
     p: u8,
     q: u8,
 ) -> bool
-    requires { ⌜ Holds board (now work) × (n ≤ topThreshold) × (t < l) × (l ≤ board .tasks) × (1 ≤ p) × (p ≤ board .cores) × (q ≤ board .cores) ⌝ }
+    requires { ⌜ Holds board (now work) × (n ≤ topThreshold) × Reached (chainOf (now costs) board) t l × (1 ≤ p) × (p ≤ board .cores) × (q ≤ board .cores) ⌝ }
     ensures { λ x. ⌜ x ≡ goesOn (problem (chainOf (now (costs .entry)) board)) (fitsAt (problem (chainOf (now (costs .entry)) board)) n)
         (readTable (problem (chainOf (now (costs .entry)) board)) (now (work .entry))) s t (λ _. room) l r p q ⌝ }
 {
@@ -118,7 +114,8 @@ fn may_come(
     r: u8,
     p: u8,
 ) -> bool
-    requires { ⌜ Holds board (now work) × (n ≤ topThreshold) × (m .last < l) × (l ≤ board .tasks) × (1 ≤ p) × (p ≤ board .cores) ⌝ }
+    requires { ⌜ Holds board (now work) × (n ≤ topThreshold) × PassedReached (chainOf (now costs) board) m × Reached (chainOf (now costs) board) (m .last) l
+        × (1 ≤ p) × (p ≤ board .cores) ⌝ }
     ensures { λ x. ⌜ x ≡ choiceOf (problem (chainOf (now (costs .entry)) board)) (fitsAt (problem (chainOf (now (costs .entry)) board)) n)
         (readTable (problem (chainOf (now (costs .entry)) board)) (now (work .entry))) (m .cores) (m .last) (roomOf (chainOf (now (costs .entry)) board) n m) l r p ⌝ }
 {
@@ -135,7 +132,7 @@ fn may_come(
 
 // The first cores of a module with that last task and those copies that may come next; 0 where none may.
 fn first_cores(costs: &[u8], board: Board, work: &[u32], n: u64, m: Passed, l: u8, r: u8) -> u8
-    requires { ⌜ Holds board (now work) × (n ≤ topThreshold) × (m .last < l) × (l ≤ board .tasks) ⌝ }
+    requires { ⌜ Holds board (now work) × (n ≤ topThreshold) × PassedReached (chainOf (now costs) board) m × Reached (chainOf (now costs) board) (m .last) l ⌝ }
     ensures { λ x. ⌜ FirstCores (chainOf (now (costs .entry)) board) (now (work .entry)) n m l r x ⌝ }
 {
     let mut p: u8 = 1;
@@ -150,7 +147,7 @@ fn first_cores(costs: &[u8], board: Board, work: &[u32], n: u64, m: Passed, l: u
 
 // The first copies, with their first cores, of a module with that last task that may come next; copies 0 where none may.
 fn first_copies(costs: &[u8], board: Board, work: &[u32], n: u64, m: Passed, l: u8) -> Module
-    requires { ⌜ Holds board (now work) × (n ≤ topThreshold) × (m .last < l) × (l ≤ board .tasks) ⌝ }
+    requires { ⌜ Holds board (now work) × (n ≤ topThreshold) × PassedReached (chainOf (now costs) board) m × Reached (chainOf (now costs) board) (m .last) l ⌝ }
     ensures { λ x. ⌜ FirstCopies (chainOf (now (costs .entry)) board) (now (work .entry)) n m l x ⌝ }
 {
     let first = m.last + 1;
@@ -175,15 +172,24 @@ fn first_copies(costs: &[u8], board: Board, work: &[u32], n: u64, m: Passed, l: 
     }
 }
 
-// The module that comes next, where some may.
-fn next_module(costs: &[u8], board: Board, work: &[u32], n: u64, m: Passed) -> Module
+// The module that comes next, where some may: its last task is tried up to its reach (document 02, M-102).
+fn next_module(
+    costs: &[u8],
+    board: Board,
+    reaches: [u8; MOST_TASKS],
+    work: &[u32],
+    n: u64,
+    m: Passed,
+) -> Module
     requires { ⌜ Holds board (now work) × (n ≤ topThreshold) × (m .last < board .tasks) × SomeNext (chainOf (now costs) board) (now work) n m
-        × Filled (problem (chainOf (now costs) board)) (fitsAt (problem (chainOf (now costs) board)) n) (now work) 0 ⌝ }
+        × Filled (problem (chainOf (now costs) board)) (fitsAt (problem (chainOf (now costs) board)) n) (now work) 0
+        × EachReach (chainOf (now costs) board) reaches × PassedReached (chainOf (now costs) board) m ⌝ }
     ensures { λ x. ⌜ x ≡ chosen (problem (chainOf (now (costs .entry)) board)) (fitsAt (problem (chainOf (now (costs .entry)) board)) n)
         (tableAt (problem (chainOf (now (costs .entry)) board)) n) (m .cores) (m .last) (roomOf (chainOf (now (costs .entry)) board) n m) ⌝ }
 {
+    let end = reaches[m.last as usize];
     let mut l = m.last + 1;
-    while l < board.tasks {
+    while l < end {
         let x = first_copies(costs, board, work, n, m, l);
         if x.copies != 0 {
             return x;
@@ -197,13 +203,15 @@ fn next_module(costs: &[u8], board: Board, work: &[u32], n: u64, m: Passed) -> M
 pub(crate) fn lay_path(
     costs: &[u8],
     board: Board,
+    reaches: [u8; MOST_TASKS],
     work: &[u32],
     n: u64,
     cores: u32,
     plan: &mut [u8],
 )
     requires { ⌜ Holds board (now work) × (n ≤ topThreshold) × (cores ≡ light (problem (chainOf (now costs) board)) n) × (cores ≤ board .cores)
-        × Filled (problem (chainOf (now costs) board)) (fitsAt (problem (chainOf (now costs) board)) n) (now work) 0 × (now plan ≡ encodePlan []) ⌝ }
+        × Filled (problem (chainOf (now costs) board)) (fitsAt (problem (chainOf (now costs) board)) n) (now work) 0 × (now plan ≡ encodePlan [])
+        × EachReach (chainOf (now costs) board) reaches ⌝ }
     ensures { λ _. ⌜ now (plan .exit) ≡ encodePlan (planOf (problem (chainOf (now (costs .entry)) board)) n) ⌝ }
 {
     let left = cores + 1;
@@ -217,7 +225,7 @@ pub(crate) fn lay_path(
     };
     let mut i: u32 = 0;
     while m.last < board.tasks {
-        let x = next_module(costs, board, work, n, m);
+        let x = next_module(costs, board, reaches, work, n, m);
         let room = room_of(costs, board, n, m, x.cores);
         let rest = room - (x.copies as u32) * (x.cores as u32);
         layout::put_module(plan, i, x);

@@ -6,12 +6,14 @@ ghost use Prim.Native.Nat.{_+_, _≤_, _<_};
 ghost use lib.ListN.{length};
 ghost use Rattle.modules.specs.Model.{chainOf};
 ghost use Rattle.modules.specs.Rules.{moduleRules};
+ghost use Rattle.modules.specs.Reach.{reach};
 ghost use Rattle.search.specs.Least.{lesser as lesserOf};
 ghost use Rattle.search.specs.Copies.{fewest};
 ghost use Rattle.search.specs.Weight.{overCopies, overNext, overLast};
 ghost use Rattle.search.specs.Best.{fitsAt, light};
 ghost use Rattle.search.specs.Flat.{readTable, cells, cell, Filled};
-ghost use Rattle.planners.specs.Search.{problem, ofSize, topThreshold, Holds, Placed, Loaded};
+ghost use Rattle.planners.specs.Search.{problem, ofSize, topThreshold, Holds, Placed, Reached, EachReach, Loaded};
+use crate::reaches::MOST_TASKS;
 use records::Board;
 
 // Fractions whose denominators are at most 32 are equal or at least 1/1024 apart.
@@ -59,7 +61,7 @@ pub(crate) fn read_table(work: &[u32], board: Board, s: u8, t: u8, q: u8) -> u32
     work[i]
 }
 
-// The least over the copies of the module up to task l, before one of q2 cores.
+// The least over the copies of the module up to task l, which ends within its reach, before one of q2 cores.
 fn over_copies(
     costs: &[u8],
     board: Board,
@@ -95,9 +97,9 @@ fn over_copies(
     lesser(none, price + rest)
 }
 
-// And over the cores of the module after it, where in one copy it keeps the rules.
+// And over the cores of the module after it, where it ends within its reach and in one copy keeps the rules.
 fn over_next(costs: &[u8], board: Board, work: &[u32], n: u64, s: u8, t: u8, q: u8, l: u8) -> u32
-    requires { ⌜ Holds board (now work) × Placed board n s t q × (t < l) × (l ≤ board .tasks) × (moduleRules (chainOf (now costs) board) (t + 1) l 1 q ≡ true) ⌝ }
+    requires { ⌜ Holds board (now work) × Placed board n s t q × Reached (chainOf (now costs) board) t l × (moduleRules (chainOf (now costs) board) (t + 1) l 1 q ≡ true) ⌝ }
     ensures { λ r. ⌜ (r ≡ overNext (problem (chainOf (now (costs .entry)) board)) (fitsAt (problem (chainOf (now (costs .entry)) board)) n)
         (readTable (problem (chainOf (now (costs .entry)) board)) (now (work .entry))) s t q l) × (r ≤ board .cores + 1) ⌝ }
 {
@@ -118,15 +120,16 @@ fn over_next(costs: &[u8], board: Board, work: &[u32], n: u64, s: u8, t: u8, q: 
     m
 }
 
-// And over its last task, up to the first that its memory or its limit does not allow: one cell of the table.
-fn over_last(costs: &[u8], board: Board, work: &[u32], n: u64, s: u8, t: u8, q: u8) -> u32
-    requires { ⌜ Holds board (now work) × Placed board n s t q ⌝ }
+// And over its last task, up to its reach (document 02, M-102) or the first that its memory or its limit does not allow: one cell of
+// the table.
+fn over_last(costs: &[u8], board: Board, end: u8, work: &[u32], n: u64, s: u8, t: u8, q: u8) -> u32
+    requires { ⌜ Holds board (now work) × Placed board n s t q × (end ≡ reach (chainOf (now costs) board) (t + 1)) ⌝ }
     ensures { λ r. ⌜ (r ≡ overLast (problem (chainOf (now (costs .entry)) board)) (fitsAt (problem (chainOf (now (costs .entry)) board)) n)
         (readTable (problem (chainOf (now (costs .entry)) board)) (now (work .entry))) s t q) × (r ≤ board .cores + 1) ⌝ }
 {
     let mut m = (board.cores as u32) + 1;
     let mut l = t + 1;
-    while l <= board.tasks {
+    while l <= end {
         if !modules::still_kept(costs, board, t + 1, l, q) {
             return m;
         }
@@ -138,9 +141,17 @@ fn over_last(costs: &[u8], board: Board, work: &[u32], n: u64, s: u8, t: u8, q: 
 }
 
 // Cell m, from a table that holds the later ones.
-fn cell_at(costs: &[u8], board: Board, work: &[u32], n: u64, m: u32) -> u32
+fn cell_at(
+    costs: &[u8],
+    board: Board,
+    reaches: [u8; MOST_TASKS],
+    work: &[u32],
+    n: u64,
+    m: u32,
+) -> u32
     requires { ⌜ Holds board (now work) × (n ≤ topThreshold) × (m < cells (problem (chainOf (now costs) board)))
-        × Filled (problem (chainOf (now costs) board)) (fitsAt (problem (chainOf (now costs) board)) n) (now work) (m + 1) ⌝ }
+        × Filled (problem (chainOf (now costs) board)) (fitsAt (problem (chainOf (now costs) board)) n) (now work) (m + 1)
+        × EachReach (chainOf (now costs) board) reaches ⌝ }
     ensures { λ r. ⌜ (r ≡ cell (problem (chainOf (now (costs .entry)) board)) (fitsAt (problem (chainOf (now (costs .entry)) board)) n) m) × (r ≤ board .cores + 1) ⌝ }
 {
     let cores = board.cores as u32;
@@ -149,14 +160,21 @@ fn cell_at(costs: &[u8], board: Board, work: &[u32], n: u64, m: u32) -> u32
     let s = m / cores % cores + 1;
     let q = m % cores + 1;
     if s + q <= cores {
-        return over_last(costs, board, work, n, s as u8, t as u8, q as u8);
+        let end = reaches[t as usize];
+        return over_last(costs, board, end, work, n, s as u8, t as u8, q as u8);
     }
     cores + 1
 }
 
 // The whole table of the threshold n, from its end.
-pub(crate) fn fill_table(costs: &[u8], board: Board, work: &mut [u32], n: u64)
-    requires { ⌜ Holds board (now work) × (n ≤ topThreshold) ⌝ }
+pub(crate) fn fill_table(
+    costs: &[u8],
+    board: Board,
+    reaches: [u8; MOST_TASKS],
+    work: &mut [u32],
+    n: u64,
+)
+    requires { ⌜ Holds board (now work) × (n ≤ topThreshold) × EachReach (chainOf (now costs) board) reaches ⌝ }
     ensures { λ _. ⌜ Holds board (now (work .exit)) × (length (now (work .exit)) ≡ length (now (work .entry)))
         × Filled (problem (chainOf (now (costs .entry)) board)) (fitsAt (problem (chainOf (now (costs .entry)) board)) n) (now (work .exit)) 0 ⌝ }
 {
@@ -165,22 +183,30 @@ pub(crate) fn fill_table(costs: &[u8], board: Board, work: &mut [u32], n: u64)
     let mut m = ((board.tasks as u32) - 1) * square;
     while 0 < m {
         m -= 1;
-        let v = cell_at(costs, board, work, n, m);
+        let v = cell_at(costs, board, reaches, work, n, m);
         let i = m as usize;
         work[i] = v;
     }
 }
 
 // The least cores of a plan within the threshold n, from its table.
-pub(crate) fn least_cores(costs: &[u8], board: Board, work: &[u32], n: u64) -> u32
+pub(crate) fn least_cores(
+    costs: &[u8],
+    board: Board,
+    reaches: [u8; MOST_TASKS],
+    work: &[u32],
+    n: u64,
+) -> u32
     requires { ⌜ Holds board (now work) × (n ≤ topThreshold)
-        × Filled (problem (chainOf (now costs) board)) (fitsAt (problem (chainOf (now costs) board)) n) (now work) 0 ⌝ }
+        × Filled (problem (chainOf (now costs) board)) (fitsAt (problem (chainOf (now costs) board)) n) (now work) 0
+        × EachReach (chainOf (now costs) board) reaches ⌝ }
     ensures { λ r. ⌜ (r ≡ light (problem (chainOf (now (costs .entry)) board)) n) × (r ≤ board .cores + 1) ⌝ }
 {
+    let end = reaches[0];
     let mut m = (board.cores as u32) + 1;
     let mut q: u8 = 1;
     while q <= board.cores {
-        let v = over_last(costs, board, work, n, 0, 0, q);
+        let v = over_last(costs, board, end, work, n, 0, 0, q);
         m = lesser(m, v);
         q += 1;
     }

@@ -1,8 +1,9 @@
--- What a service that only fills an output answers (document 01, "Three services"). Assumes nothing.
+-- What a service that only fills an output answers (document 01, "Three services"), or one that answers a single number (document 02,
+-- M-102). Assumes nothing.
 use Prim.Native.Nat.{ℕ}
 use Rattle.records.specs.declared.Filled.{Filled}
 
--- so many bytes or entries are filled in
+-- so many bytes or entries are filled in, or the number is this
 abbrev pub filledIn : ℕ → Filled
 filledIn count = record { refusal = 0; place = 0; count = count }
 

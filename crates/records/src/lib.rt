@@ -11,6 +11,7 @@ mod scan;
 pub use keys::MOST_VALUE;
 pub use keys::count;
 pub use keys::fault;
+pub use scan::MOST_TASKS;
 pub use scan::read;
 pub use scan::read_board;
 
@@ -35,7 +36,7 @@ pub struct Refusal {
 }
 
 // What a service that only fills an output answers (document 01, "Three services"): how many bytes or entries it has filled in, or a
-// refusal's number and place, with count 0.
+// refusal's number and place, with count 0. For a reach (document 02, M-102) the count is the reach.
 #[repr(C)]
 pub struct Filled {
     pub refusal: u32,

@@ -15,7 +15,7 @@ use fields::byte_at;
 use fields::value_at;
 
 // The most tasks of a chain.
-const MOST_TASKS: u8 = 12;
+pub const MOST_TASKS: u8 = 12;
 
 // Record size in bytes.
 const RECORD: usize = 8;

@@ -125,11 +125,6 @@ module _ (X : Problem) (n : ℕ) (w : List ℕ) (s t q : ℕ) where
   pub last-start : cap X ≡ least (cap X) (t + 1) (overNext X (fitsAt X n) (readTable X w) s t q)
   last-start = rw add-one (sym (overLast-start X (fitsAt X n) (fits-fair X n) (readTable X w) s t q))
 
-  pub last-end : (i m : ℕ) → i ≡ X .tasks + 1 → m ≡ least (cap X) i (overNext X (fitsAt X n) (readTable X w) s t q)
-      → m ≡ overLast X (fitsAt X n) (readTable X w) s t q
-  unfolding overLast
-  last-end i m e d = let c : i ≡ suc (X .tasks) = omega arith in d ∙ rw c
-
 -- ---- the loop for the least weight at the threshold n: over the first module's cores, from 1 on
 
 module _ (X : Problem) (n : ℕ) (w : List ℕ) where

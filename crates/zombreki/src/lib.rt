@@ -1,10 +1,11 @@
-// The services for C and Rust callers, under plain names: Judge, Bench way and Best plan (document 01, "Three services"), and filling in
-// costs from laws (document 02, M-101).
+// The services for C and Rust callers, under plain names: Judge, Bench way and Best plan (document 01, "Three services"), filling in
+// costs from laws (document 02, M-101) and a task's reach (M-102).
 //
 // A slice crosses as a pointer and a count of elements. No function has a `requires`: each answers for every content and length.
 // include/zombreki.h declares them for C, and says what no proof covers.
 ghost use mathlib.Core.Path.{_≡_};
 ghost use Prim.Native.Nat.{_<_};
+ghost use Rattle.modules.specs.Reach.{reachAnswer};
 ghost use Rattle.judge.specs.Judge.{judged};
 ghost use Rattle.greedy.specs.Greedy.{greedyAnswer, greedyBytes};
 ghost use Rattle.planners.specs.Best.{bestAnswer, bestBytes, bestWork};
@@ -75,4 +76,12 @@ pub extern "C" fn zombreki_fill_costs(head: &[u8], laws: &[u8], out: &mut [u8]) 
         × (now (out .exit) ≡ fillBytes (now (head .entry)) (now (laws .entry)) (now (out .entry))) ⌝ }
 {
     fitted::fill_costs(head, laws, out)
+}
+
+// How far a module can go from a first task, by memory.
+#[no_mangle]
+pub extern "C" fn zombreki_reach(costs: &[u8], first: u8) -> Filled
+    ensures { λ r. ⌜ r ≡ reachAnswer (now (costs .entry)) first ⌝ }
+{
+    modules::read_reach(costs, first)
 }

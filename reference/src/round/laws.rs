@@ -1,4 +1,4 @@
-//! Costs filled in from laws, compared, and the three services on what was filled in, against the second planner, which works
+//! Costs filled in from laws, compared, and all services on what was filled in, against the second planner, which works
 //! from the laws.
 
 use super::all;

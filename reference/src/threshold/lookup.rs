@@ -1,23 +1,58 @@
-//! Costs looked up in the bytes of an accepted file, and the sums over a module's tasks, added up anew at each call.
+//! Costs looked up in the bytes of an accepted file, and the sums over a module's tasks, added up anew at each call; and the
+//! reaches, worked out once.
 
-use crate::costs::{Chain, RECORD_BYTES};
+use crate::costs::{Chain, MOST_TASKS, RECORD_BYTES};
 
 pub struct Lookup<'a> {
     bytes: &'a [u8],
     pub tasks: usize,
     pub cores: usize,
     capacity: u64,
+    /// The reach of each first task (document 02, M-102): at t that of task t + 1.
+    reaches: [u8; MOST_TASKS],
 }
 
 /// Tasks and cores count from 1; 0 cores stand for no module.
 impl<'a> Lookup<'a> {
     pub fn new(bytes: &'a [u8], chain: &Chain) -> Lookup<'a> {
-        Lookup {
+        let mut costs = Lookup {
             bytes,
             tasks: chain.tasks,
             cores: chain.cores,
             capacity: chain.capacity.into(),
+            reaches: [0; MOST_TASKS],
+        };
+        for t in 0..costs.tasks {
+            costs.reaches[t] = costs.farthest(t + 1) as u8;
         }
+        costs
+    }
+
+    /// The reach of the task after task t, of which the chain has one.
+    pub fn reach_after(&self, t: usize) -> usize {
+        self.reaches[t].into()
+    }
+
+    /// The last task of the longest module from this one on that needs at most the board's cores, 0 if there is none: the first
+    /// that needs more ends the loop.
+    fn farthest(&self, first: usize) -> usize {
+        let mut end = 0;
+        for last in first..=self.tasks {
+            if self.fewest_cores(first, last) > self.cores {
+                return end;
+            }
+            end = last;
+        }
+        end
+    }
+
+    /// The fewest cores that the module's memory allows, one more than the board has where none of its cores do.
+    fn fewest_cores(&self, first: usize, last: usize) -> usize {
+        let mut p = 1;
+        while p <= self.cores && !self.memory_fits(first, last, p) {
+            p += 1;
+        }
+        p
     }
 
     /// The value of a record, counted from 0.
@@ -92,5 +127,28 @@ impl<'a> Lookup<'a> {
             }
         }
         self.memory_fits(first, last, p)
+    }
+}
+
+#[cfg(test)]
+mod tests {
+    use super::*;
+    use crate::cases::{self, Case, KINDS, Kind};
+    use crate::costs::{self, MOST_CORES};
+    use crate::reach;
+
+    /// A reach that is too great would change no answer of the search.
+    #[test]
+    fn reaches_are_the_second_planners() {
+        let small = (0..100 * KINDS.len() as u64).map(cases::small);
+        let large = (0..40).map(|seed| cases::sized(Kind::Reaches, MOST_TASKS, MOST_CORES, seed));
+        for Case { seed, costs, .. } in small.chain(large) {
+            let chain = costs::read(&costs).expect("an accepted file");
+            let twin = Lookup::new(&costs, &chain);
+            for t in 0..chain.tasks {
+                let due = reach::reach_of(&chain, t + 1);
+                assert_eq!(twin.reach_after(t), due, "seed {seed}, task {}", t + 1);
+            }
+        }
     }
 }

@@ -62,10 +62,10 @@ impl Within<'_> {
         false
     }
 
-    /// The first module in module order that may come next; there is one.
+    /// The first module in module order that may come next; there is one, and it ends within its reach.
     fn next_module(&self, passed: Passed) -> Module {
         let first = passed.module.last + 1;
-        for last in first..=self.costs.tasks {
+        for last in first..=self.costs.reach_after(passed.module.last) {
             for copies in 1..=self.costs.cores {
                 for cores in 1..=self.costs.cores {
                     let module = Module {

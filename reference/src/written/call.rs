@@ -26,7 +26,7 @@ pub const WORK: Lent<u32> = Lent {
 
 #[derive(Debug)]
 pub enum Call {
-    /// All three services.
+    /// All services that take costs.
     Read,
     Judge {
         plan: Vec<u8>,
@@ -39,16 +39,21 @@ pub enum Call {
         plan: Lent<u8>,
         work: Lent<u32>,
     },
+    Reach {
+        first: u8,
+    },
 }
 
 impl Call {
-    /// Whether such a call can be due that: Judge no plan, a planner a plan with its figures, and `read` no figures.
+    /// Whether such a call can be due that: Judge no plan, a planner a plan with its figures, only a reach a reach, and `read` none
+    /// of these.
     pub fn suits(&self, due: &Due) -> bool {
         match due {
             Due::Accepted => matches!(self, Call::Read),
             Due::Refusal(_) => true,
             Due::Figures(_) => matches!(self, Call::Judge { .. }),
             Due::Plan(..) => matches!(self, Call::Greedy { .. } | Call::Best { .. }),
+            Due::Reach(_) => matches!(self, Call::Reach { .. }),
         }
     }
 }
@@ -67,6 +72,10 @@ pub fn parse(text: &str) -> Result<Call, String> {
             grouping: number(grouping)?,
             plan: lent(plan, "# bytes", PLAN)?,
         });
+    }
+    if let Some(first) = text.strip_prefix("reach of task ") {
+        let first = number(first)?;
+        return Ok(Call::Reach { first });
     }
     let (rest, work) = split_if(text, " with ");
     let (name, plan) = split_if(rest, " into ");

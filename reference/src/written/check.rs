@@ -7,7 +7,7 @@ use super::due::Due;
 use super::fill;
 use super::laws::Lawful;
 use super::{Costs, Planned};
-use crate::answer::Answer;
+use crate::answer::{Answer, Filled};
 use crate::plan::PLAN_BYTES;
 use crate::services::{LIBRARY, Planner, QUICK_REFERENCE, REFERENCE, Services};
 use crate::{costs, laws};
@@ -80,26 +80,36 @@ fn served(planner: &dyn Planner, case: &Planned) -> Result<(), String> {
             let given = best(planner, *plan, *work);
             left(&case.due, *plan, *work, &given)
         }
+        Call::Reach { first } => {
+            let reached = planner.reach(*first);
+            same("answer", &[reach_due(&case.due)], &[reached])
+        }
     }
 }
 
-/// All three services refuse so, or none refuses the costs.
+/// All services refuse so, or none refuses the costs.
 fn read(planner: &dyn Planner, case: &Planned) -> Result<(), String> {
     let judged = planner.judge(&[0; PLAN_BYTES]);
     let greedy = greedy(planner, 0, PLAN);
     let best = best(planner, PLAN, WORK);
+    let reached = planner.reach(1);
     let answers = [judged, greedy.answer, best.answer];
     if let Due::Accepted = case.due {
-        return match answers.iter().find(|a| (1..=6).contains(&a.refusal)) {
-            None => Ok(()),
-            Some(answer) => Err(format!("accepted costs are due, not {answer:?}")),
-        };
+        let refusals = answers.map(|answer| answer.refusal);
+        let is_accepted = |refusal| !(1..=6).contains(&refusal);
+        if refusals.into_iter().all(is_accepted) && reached.refusal == 0 {
+            return Ok(());
+        }
+        return Err(format!(
+            "accepted costs are due, not {answers:?}, {reached:?}"
+        ));
     }
     same(
         "answers of the services",
         &[answer_due(&case.due); 3],
         &answers,
     )?;
+    same("answer of reach", &[reach_due(&case.due)], &[reached])?;
     left(&case.due, PLAN, NO_WORK, &greedy)?;
     left(&case.due, PLAN, WORK, &best)
 }
@@ -133,9 +143,20 @@ pub fn lent<T: Copy>(lent: Lent<T>) -> Vec<T> {
 
 fn answer_due(due: &Due) -> Answer {
     match due {
-        Due::Accepted => Answer::default(),
+        Due::Accepted | Due::Reach(_) => Answer::default(),
         Due::Refusal(refusal) => (*refusal).into(),
         Due::Figures(answer) | Due::Plan(_, answer) => *answer,
+    }
+}
+
+fn reach_due(due: &Due) -> Filled {
+    match due {
+        Due::Reach(reach) => Filled {
+            count: *reach,
+            ..Filled::default()
+        },
+        Due::Refusal(refusal) => (*refusal).into(),
+        Due::Accepted | Due::Figures(_) | Due::Plan(..) => Filled::default(),
     }
 }
 
@@ -148,7 +169,7 @@ fn left(due: &Due, plan: Lent<u8>, work: Lent<u32>, given: &Given) -> Result<(),
     let searched = match due {
         Due::Plan(..) => true,
         Due::Refusal(refusal) => refusal.number == 9,
-        Due::Accepted | Due::Figures(_) => false,
+        Due::Accepted | Due::Figures(_) | Due::Reach(_) => false,
     };
     if searched {
         words[MARGIN..MARGIN + work.length].fill(0);

@@ -12,6 +12,8 @@ pub enum Due {
     Figures(Answer),
     /// A plan that is filled in, and its figures.
     Plan([u8; PLAN_BYTES], Answer),
+    /// The last task within reach, or 0.
+    Reach(u32),
 }
 
 pub fn parse(text: &str) -> Result<Due, String> {
@@ -20,6 +22,9 @@ pub fn parse(text: &str) -> Result<Due, String> {
     }
     if let Some(refused) = text.strip_prefix("refusal ") {
         return Ok(Due::Refusal(refusal(refused)?));
+    }
+    if let Some([reach]) = matched("reach #", text) {
+        return Ok(Due::Reach(reach));
     }
     let Some(rest) = text.strip_prefix("plan ") else {
         return Ok(Due::Figures(figures(text)?));

@@ -2,6 +2,7 @@
 //! right one by the same files and the same comparison that the library passes.
 
 mod mistakes;
+mod reaches;
 
 use mistakes::laws::{bounds, values};
 use mistakes::limits::walks;
@@ -97,7 +98,8 @@ fn some_line_tells_every_mistake() {
     let small = |line: &Line| !line.text.contains("k = 12");
     let mut lines = written::lines();
     lines.retain(|line| small(line) && keeps_to(line, &REFERENCE));
-    for Mistake { what, services, .. } in mistakes::planners().chain(laws::mistakes()) {
+    let programs = laws::mistakes().chain(mistakes::reaches::mistakes());
+    for Mistake { what, services, .. } in mistakes::planners().chain(programs) {
         let Some(line) = lines.iter().find(|line| !keeps_to(line, &services)) else {
             panic!("no line tells: {what}");
         };

@@ -1,9 +1,10 @@
 //! The wrong planners: document 01's "Where a plan goes astray", then "Before anyone tests", then mistakes in what is lent, then
-//! those about core limits; and wrong programs that fill in costs from laws.
+//! those about core limits; and wrong programs that fill in costs from laws, or that find reaches.
 
 mod judges;
 pub mod laws;
 pub mod limits;
+pub mod reaches;
 pub mod searches;
 
 use reference::answer::{Answer, Refusal};
@@ -74,7 +75,8 @@ const fn in_judge(what: &'static str, judge: fn(&[u8], &[u8]) -> Answer) -> Mist
 
 /// All wrong planners.
 pub fn planners() -> impl Iterator<Item = Mistake> {
-    MISTAKES.into_iter().chain(limits::MISTAKES)
+    let base = MISTAKES.into_iter().chain(limits::MISTAKES);
+    base.chain(reaches::searches::MISTAKES)
 }
 
 const MISTAKES: [Mistake; 27] = [

@@ -28,7 +28,7 @@ pub fn charges_receiver(chain: &Chain) -> Option<Vec<Module>> {
 }
 
 /// The plan that comes first among those that pass, by bottleneck, then cores, then module order.
-fn best_that_passes(chain: &Chain, passes: impl Fn(&[Module]) -> bool) -> Option<Vec<Module>> {
+pub fn best_that_passes(chain: &Chain, passes: impl Fn(&[Module]) -> bool) -> Option<Vec<Module>> {
     let mut best: Option<Vec<Module>> = None;
     each_plan(chain, &mut |rival| {
         if !passes(rival) {

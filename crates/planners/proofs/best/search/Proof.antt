@@ -8,17 +8,20 @@ use Rattle.layout.specs.Layout.{encode}
 use Rattle.layout.proofs.Placing.{put-room}
 use Rattle.planners.specs.Search.{topThreshold}
 use Rattle.planners.proofs.Laying.{light-feasible, feasible-light}
-use Rattle.planners.proofs.Serving.{zero-holds, none-answer, none-bytes, plan-answer, plan-bytes}
+use Rattle.planners.proofs.Serving.{sized, zero-holds, none-answer, none-bytes, plan-reached, plan-answer, plan-bytes}
 use Rattle.planners.proofs.best.search.Statement.{statement}
 use Rattle.planners.proofs.best.search.Tie as tie
 
 cast-most : tie.Need-cast-most
 cast-most c = search needs
 
+each-reach-requires : tie.Need-each-reach-requires
+each-reach-requires c κs = let s = c .before .before .before .before in sized (s .args .costs .now) (s .args .board) (s .pre .0)
+
 cores-within-requires : tie.Need-cores-within-requires
 cores-within-requires c κs =
-    let s = c .before .before .before .before .before in
-    (zero-holds (s .args .costs .now) (s .args .board) (s .pre .0) (s .pre .2) (s .pre .3), omega arith)
+    let s = c .before .before .before .before .before .before in
+    (zero-holds (s .args .costs .now) (s .args .board) (s .pre .0) (s .pre .2) (s .pre .3), omega arith, c .before .each-reach .ensures)
 
 refuse-requires : tie.Need-refuse-requires
 refuse-requires c κs = search needs
@@ -28,7 +31,7 @@ same-length c = search needs
 
 returns : tie.Need-returns
 returns c =
-    let s = c .before .before .before .before .before .before .before .before .before .before in
+    let s = c .before .before .before .before .before .before .before .before .before .before .before in
     let a = s .args in
     let some = c .before .before .before .before .cores-within .ensures in (
       c .refuse .ensures ∙ none-answer (a .costs .now) (a .board) (s .pre .0) (some .0) (c .before .if1 .taken),
@@ -38,9 +41,9 @@ returns c =
 
 least-threshold-requires : tie.Need-least-threshold-requires
 least-threshold-requires c κs =
-    let a = c .before .before .before .before .before .before .before .before .before .before .args in
+    let a = c .before .before .before .before .before .before .before .before .before .before .before .args in
     let some = c .before .before .before .before .cores-within .ensures in
-    (some .1, omega arith, light-feasible (chainOf (a .costs .now) (a .board)) topThreshold (some .0) (c .before .if1 .left))
+    (some .1, omega arith, light-feasible (chainOf (a .costs .now) (a .board)) topThreshold (some .0) (c .before .if1 .left), c .before .before .before .before .before .before .each-reach .ensures)
 
 cores-within-requires-2 : tie.Need-cores-within-requires-2
 cores-within-requires-2 c κs = search needs
@@ -51,19 +54,19 @@ slice-aggregate-lay-path c = search needs
 lay-path-requires : tie.Need-lay-path-requires
 unfolding encode
 lay-path-requires c κs =
-    let a = c .before .before .before .before .before .before .before .before .before .before .before .before .before .before .before .before .before .before .before .args in
+    let a = c .before .before .before .before .before .before .before .before .before .before .before .before .before .before .before .before .before .before .before .before .args in
     let n = c .before .before .before .before .before .before .before .before .least-threshold in
     let t = c .before .before .before .before .cores-within2 .ensures in
-    (t .1, n .ensures .0, t .0, feasible-light (chainOf (a .costs .now) (a .board)) (n .result) (t .0) (n .ensures .1), t .3, refl)
+    (t .1, n .ensures .0, t .0, feasible-light (chainOf (a .costs .now) (a .board)) (n .result) (t .0) (n .ensures .1), t .3, refl, c .before .before .before .before .before .before .before .before .before .before .before .before .before .before .before .each-reach .ensures)
 
 put-plan-requires : tie.Need-put-plan-requires
 put-plan-requires c κs = search needs
 
-slice-aggregate-figures : tie.Need-slice-aggregate-figures
-slice-aggregate-figures c = search needs
-
-figures-requires : tie.Need-figures-requires
-figures-requires c κs = search needs
+figures-of-requires : tie.Need-figures-of-requires
+figures-of-requires c κs =
+    let s = c .before .before .before .before .before .before .before .before .before .before .before .before .before .before .before .before .before .before .before .before .before .before .before .before .before .before in
+    let n = c .before .before .before .before .before .before .before .before .before .before .before .before .before .before .least-threshold in
+    plan-reached (s .args .costs .now) (s .args .board) (s .pre .0) (n .result) (n .ensures .1) (n .ensures .2) (c .before .before .before .before .before .lay-path .ensures)
 
 same-length-2 : tie.Need-same-length-2
 same-length-2 c = search needs
@@ -75,11 +78,11 @@ returns-2 : tie.Need-returns-2
 returns-2 c =
     let s = c .before .before .before .before .before .before .before .before .before .before .before .before .before .before .before .before .before .before .before .before .before .before .before .before .before .before .before in
     let a = s .args in
-    let n = c .before .before .before .before .before .before .before .before .before .before .before .before .before .before .before .before .least-threshold in
-    let laid = c .before .before .before .before .before .before .before .lay-path .ensures in (
-      plan-answer (a .costs .now) (a .board) (s .pre .0) (n .result) (n .ensures .1) (n .ensures .2) laid (c .figures .ensures),
-      plan-bytes (a .costs .now) (a .board) (s .pre .0) (n .result) (n .ensures .1) (n .ensures .2) laid (a .plan .now) (c .before .before .before .before .put-plan .ensures ∙ put-room _ (a .plan .now) (s .pre .1)),
-      c .before .before .before .before .before .before .before .before .before .before .before .before .cores-within2 .ensures .2 ∙ n .ensures .4 ∙ c .before .before .before .before .before .before .before .before .before .before .before .before .before .before .before .before .before .before .before .before .before .cores-within .ensures .2,
+    let n = c .before .before .before .before .before .before .before .before .before .before .before .before .before .before .before .least-threshold in
+    let laid = c .before .before .before .before .before .before .lay-path .ensures in (
+      plan-answer (a .costs .now) (a .board) (s .pre .0) (n .result) (n .ensures .1) (n .ensures .2) laid (c .figures-of .ensures),
+      plan-bytes (a .costs .now) (a .board) (s .pre .0) (n .result) (n .ensures .1) (n .ensures .2) laid (a .plan .now) (c .before .before .before .put-plan .ensures ∙ put-room _ (a .plan .now) (s .pre .1)),
+      c .before .before .before .before .before .before .before .before .before .before .before .cores-within2 .ensures .2 ∙ n .ensures .4 ∙ c .before .before .before .before .before .before .before .before .before .before .before .before .before .before .before .before .before .before .before .before .cores-within .ensures .2,
     )
 
 pub search-spec : {M : Type 1} → statement M
@@ -87,6 +90,7 @@ search-spec =
     tie.close
     (tie.spec
     cast-most
+    each-reach-requires
     cores-within-requires
     refuse-requires
     same-length
@@ -96,8 +100,7 @@ search-spec =
     slice-aggregate-lay-path
     lay-path-requires
     put-plan-requires
-    slice-aggregate-figures
-    figures-requires
+    figures-of-requires
     same-length-2
     same-length-3
     returns-2)

@@ -17,11 +17,11 @@ use Rattle.planners.proofs.bisect.least_threshold.Statement.{statement}
 use Rattle.planners.proofs.bisect.least_threshold.Tie as tie
 
 abbrev Inv-loop : tie.InvT-loop
-Inv-loop costs board work₀ top lo₀ hi₀ work lo hi =
+Inv-loop costs board reaches work₀ top lo₀ hi₀ work lo hi =
     (hi ≤ top) × Holds board work × (length work ≡ length work₀) × Bracket (problem (chainOf costs board)) lo hi
 
 abbrev μ-loop : tie.MeasureT-loop
-μ-loop costs board work₀ top lo₀ hi₀ work lo hi = hi - lo
+μ-loop costs board reaches work₀ top lo₀ hi₀ work lo hi = hi - lo
 
 loop-holds : tie.Need-loop-holds Inv-loop μ-loop
 loop-holds c =
@@ -35,7 +35,7 @@ add-mid : tie.Need-add-mid Inv-loop μ-loop
 add-mid c = omega arith
 
 cores-within-requires : tie.Need-cores-within-requires Inv-loop μ-loop
-cores-within-requires c κs = (c .before .before .loop .inv .1, omega arith)
+cores-within-requires c κs = (c .before .before .loop .inv .1, omega arith, c .before .before .before .before .before .pre .3)
 
 cast-if1 : tie.Need-cast-if1 Inv-loop μ-loop
 cast-if1 c = search needs

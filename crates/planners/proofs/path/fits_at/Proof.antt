@@ -18,36 +18,26 @@ returns c =
 
 returns-2 : tie.Need-returns-2
 returns-2 c =
-    let a = c .before .before .before .before .args in
+    let a = c .before .before .before .args in
     sym (fits-not (chainOf (a .costs .now) (a .board)) (a .n) (a .s) (a .t) (a .l) (a .r) (a .p) (a .q) (λ f. omega arith))
+
+cast-if3 : tie.Need-cast-if3
+cast-if3 c = search needs
+
+add-if3-2 : tie.Need-add-if3-2
+add-if3-2 c =
+    let a = c .before .before .before .before .args in
+    omega (arith, product-of-bytes {x = a .r} {y = a .p} (omega arith) (omega arith))
+
+add-if3 : tie.Need-add-if3
+add-if3 c = omega (arith, add-if3-2 c)
+
+mul-if3 : tie.Need-mul-if3
+mul-if3 c = omega (arith, add-if3-2 c)
 
 returns-3 : tie.Need-returns-3
 returns-3 c =
     let a = c .before .before .before .before .before .args in
-    sym (fits-not (chainOf (a .costs .now) (a .board)) (a .n) (a .s) (a .t) (a .l) (a .r) (a .p) (a .q) (λ f. omega arith))
-
-returns-4 : tie.Need-returns-4
-returns-4 c =
-    let a = c .before .before .before .before .before .before .args in
-    sym (fits-not (chainOf (a .costs .now) (a .board)) (a .n) (a .s) (a .t) (a .l) (a .r) (a .p) (a .q) (λ f. omega arith))
-
-cast-if5 : tie.Need-cast-if5
-cast-if5 c = search needs
-
-add-if5-2 : tie.Need-add-if5-2
-add-if5-2 c =
-    let a = c .before .before .before .before .before .before .before .args in
-    omega (arith, product-of-bytes {x = a .r} {y = a .p} (omega arith) (omega arith))
-
-add-if5 : tie.Need-add-if5
-add-if5 c = omega (arith, add-if5-2 c)
-
-mul-if5 : tie.Need-mul-if5
-mul-if5 c = omega (arith, add-if5-2 c)
-
-returns-5 : tie.Need-returns-5
-returns-5 c =
-    let a = c .before .before .before .before .before .before .before .before .args in
     sym (fits-not (chainOf (a .costs .now) (a .board)) (a .n) (a .s) (a .t) (a .l) (a .r) (a .p) (a .q) (λ f. omega arith))
 
 add-first : tie.Need-add-first
@@ -56,10 +46,10 @@ add-first c = search needs
 rules-met-requires : tie.Need-rules-met-requires
 rules-met-requires c κs = search needs
 
-returns-6 : tie.Need-returns-6
-returns-6 c =
-    let a = c .before .before .before .before .before .before .before .before .before .before .args in
-    sym (fits-kept-not (chainOf (a .costs .now) (a .board)) (a .n) (a .s) (a .t) (a .l) (a .r) (a .p) (a .q) (c .before .rules-met .ensures) (c .if6 .taken))
+returns-4 : tie.Need-returns-4
+returns-4 c =
+    let a = c .before .before .before .before .before .before .before .args in
+    sym (fits-kept-not (chainOf (a .costs .now) (a .board)) (a .n) (a .s) (a .t) (a .l) (a .r) (a .p) (a .q) (c .before .rules-met .ensures) (c .if4 .taken))
 
 response-of-requires : tie.Need-response-of-requires
 response-of-requires c κs = search needs
@@ -69,15 +59,15 @@ mul-result c = search needs
 
 mul-result-2 : tie.Need-mul-result-2
 mul-result-2 c =
-    let a = c .before .before .before .before .before .before .before .before .before .before .before .args in
+    let a = c .before .before .before .before .before .before .before .before .args in
     let h : a .n * a .r ≤ 23552000000 * 255 = mul-le-mul {n₂ = 23552000000} {m₂ = 255} (omega arith) (omega arith) in
     omega arith
 
-returns-7 : tie.Need-returns-7
-returns-7 c =
-    let a = c .before .before .before .before .before .before .before .before .before .before .before .args in
-    fits-within (chainOf (a .costs .now) (a .board)) (a .n) (a .s) (a .t) (a .l) (a .r) (a .p) (a .q) (omega arith) (omega arith) (omega arith) (omega arith)
-    (c .before .before .rules-met .ensures) (c .before .if6 .left) (omega arith) (c .response-of .ensures .0)
+returns-5 : tie.Need-returns-5
+returns-5 c =
+    let a = c .before .before .before .before .before .before .before .before .args in
+    fits-within (chainOf (a .costs .now) (a .board)) (a .n) (a .s) (a .t) (a .l) (a .r) (a .p) (a .q) (c .before .before .before .before .before .before .before .before .pre .2) (omega arith) (omega arith)
+    (c .before .before .rules-met .ensures) (c .before .if4 .left) (omega arith) (c .response-of .ensures .0)
 
 pub fits-at-spec : {M : Type 1} → statement M
 fits-at-spec =
@@ -85,17 +75,15 @@ fits-at-spec =
     (tie.spec
     returns
     returns-2
+    cast-if3
+    mul-if3
+    add-if3
+    add-if3-2
     returns-3
-    returns-4
-    cast-if5
-    mul-if5
-    add-if5
-    add-if5-2
-    returns-5
     add-first
     rules-met-requires
-    returns-6
+    returns-4
     response-of-requires
     mul-result
     mul-result-2
-    returns-7)
+    returns-5)

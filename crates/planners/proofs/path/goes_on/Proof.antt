@@ -6,11 +6,14 @@ use borrow.Author.Tests.{lt-ltb, le-ltb}
 use Rattle.records.proofs.Bounds.{product-of-bytes}
 use Rattle.modules.specs.Model.{chainOf}
 use Rattle.planners.proofs.Cells.{read-size}
+use Rattle.planners.proofs.Fitting.{reached-inside}
 use Rattle.planners.proofs.path.goes_on.Statement.{statement}
 use Rattle.planners.proofs.path.goes_on.Tie as tie
 
 read-table-requires : tie.Need-read-table-requires
-read-table-requires c κs = search needs
+read-table-requires c κs =
+    let b = c .before .before in
+    (b .pre .0, omega arith, omega arith, omega (arith, b .pre .2 .later), reached-inside (b .pre .2), omega arith)
 
 add-weight : tie.Need-add-weight
 add-weight c =

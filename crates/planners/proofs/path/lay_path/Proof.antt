@@ -15,10 +15,10 @@ use Rattle.planners.proofs.path.lay_path.Statement.{statement}
 use Rattle.planners.proofs.path.lay_path.Tie as tie
 
 abbrev Inv-loop : tie.InvT-loop
-Inv-loop costs board work n cores plan₀ left m₀ i₀ plan m i = Laid (chainOf costs board) n m i plan
+Inv-loop costs board reaches work n cores plan₀ left m₀ i₀ plan m i = Laid (chainOf costs board) n m i plan
 
 abbrev μ-loop : tie.MeasureT-loop
-μ-loop costs board work n cores plan₀ left m₀ i₀ plan m i = board .tasks - m .last
+μ-loop costs board reaches work n cores plan₀ left m₀ i₀ plan m i = board .tasks - m .last
 
 add-left : tie.Need-add-left Inv-loop μ-loop
 add-left c = search needs
@@ -34,7 +34,7 @@ next-module-requires c κs =
     let s = c .before .before .before .before .before .before .before in
     let a = s .args in
     let l = c .before .before .before .loop in
-    (s .pre .0, s .pre .1, c .if1 .taken, next-some (chainOf (a .costs .now) (a .board)) (a .n) (l .m) (l .i) (l .plan) (l .inv) (c .if1 .taken) (a .work .now) (s .pre .4), s .pre .4)
+    (s .pre .0, s .pre .1, c .if1 .taken, next-some (chainOf (a .costs .now) (a .board)) (a .n) (l .m) (l .i) (l .plan) (l .inv) (c .if1 .taken) (a .work .now) (s .pre .4), s .pre .4, s .pre .6, l .inv .reached)
 
 room-of-requires : tie.Need-room-of-requires Inv-loop μ-loop
 room-of-requires c κs = search needs

@@ -1,5 +1,4 @@
 -- `room_of` is `roomOf`: the tests are the definition's.
-use borrow.Author.Needs.{needs}
 use borrow.Author.Tests.{eq-eqb, ne-eqb}
 use Rattle.search.specs.Least.{pick}
 use Rattle.planners.specs.Search.{roomOf}
@@ -11,7 +10,9 @@ unfolding roomOf
 returns c = simp (eq-eqb _ _ (c .if1 .taken))
 
 fits-at-requires : tie.Need-fits-at-requires
-fits-at-requires c κs = search needs
+fits-at-requires c κs =
+    let b = c .before .before .before in
+    (b .pre .0, b .pre .1, b .pre .2 .passed (c .if1 .left))
 
 returns-2 : tie.Need-returns-2
 unfolding roomOf pick

@@ -59,6 +59,16 @@ add-if1 c =
     let a = c .before .before .before .args in
     omega (arith, mod-lt (a .m / a .board .cores) {m = a .board .cores} (omega arith), mod-lt (a .m) {m = a .board .cores} (omega arith))
 
+cast-end : tie.Need-cast-end
+cast-end c =
+    let b = c .before .before .before .before in
+    omega (arith, row-inside (b .pre .0 .sized) (b .args .m) (b .pre .2))
+
+array-read-end : tie.Need-array-read-end
+array-read-end c =
+    let b = c .before .before .before .before in
+    omega (arith, row-inside (b .pre .0 .sized) (b .args .m) (b .pre .2), b .pre .0 .sized .most-tasks)
+
 cast-over-last : tie.Need-cast-over-last
 cast-over-last c = search needs
 
@@ -74,7 +84,7 @@ over-last-requires : tie.Need-over-last-requires
 over-last-requires c κs =
     let b = c .before .before .before .before in
     let h = row-inside (b .pre .0 .sized) (b .args .m) (b .pre .2) in
-    (b .pre .0, record { threshold = b .pre .1; inside = omega arith; some-cores = omega arith; room = omega arith })
+    (b .pre .0, record { threshold = b .pre .1; inside = omega arith; some-cores = omega arith; room = omega arith }, b .pre .4 .at (rowOf (b .args .board .cores) (b .args .m)) (omega arith))
 
 returns : tie.Need-returns
 returns c =
@@ -107,6 +117,8 @@ cell-at-spec =
     rem-q
     add-q
     add-if1
+    cast-end
+    array-read-end
     cast-over-last
     cast-over-last-2
     cast-over-last-3

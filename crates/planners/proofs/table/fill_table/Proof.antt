@@ -15,12 +15,12 @@ use Rattle.planners.proofs.table.fill_table.Statement.{statement}
 use Rattle.planners.proofs.table.fill_table.Tie as tie
 
 abbrev Inv-loop : tie.InvT-loop
-Inv-loop costs board work₀ n cores square m₀ work m =
+Inv-loop costs board reaches work₀ n cores square m₀ work m =
     let x = problem (chainOf costs board) in
     (m ≤ cells x) × Holds board work × (length work ≡ length work₀) × Filled x (fitsAt x n) work m
 
 abbrev μ-loop : tie.MeasureT-loop
-μ-loop costs board work₀ n cores square m₀ work m = m
+μ-loop costs board reaches work₀ n cores square m₀ work m = m
 
 cast-cores : tie.Need-cast-cores Inv-loop μ-loop
 cast-cores c = search needs
@@ -48,7 +48,7 @@ sub-m-2 c = omega arith
 cell-at-requires : tie.Need-cell-at-requires Inv-loop μ-loop
 cell-at-requires c κs =
     let i = c .before .before .loop .inv in
-    (i .1, omega arith, omega arith, λ j a b. i .3 j (omega arith) b)
+    (i .1, omega arith, omega arith, λ j a b. i .3 j (omega arith) b, c .before .before .before .before .before .before .before .pre .2)
 
 cast-i : tie.Need-cast-i Inv-loop μ-loop
 cast-i c = search needs

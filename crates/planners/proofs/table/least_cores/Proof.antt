@@ -17,12 +17,15 @@ use Rattle.planners.proofs.table.least_cores.Statement.{statement}
 use Rattle.planners.proofs.table.least_cores.Tie as tie
 
 abbrev Inv-loop : tie.InvT-loop
-Inv-loop costs board work n m₀ q₀ m q =
+Inv-loop costs board work n end m₀ q₀ m q =
     let x = problem (chainOf costs board) in
     (1 ≤ q) × (q ≤ board .cores + 1) × (m ≡ least (cap x) q (firstRow x n work))
 
 abbrev μ-loop : tie.MeasureT-loop
-μ-loop costs board work n m₀ q₀ m q = board .cores + 1 - q
+μ-loop costs board work n end m₀ q₀ m q = board .cores + 1 - q
+
+array-read-end : tie.Need-array-read-end Inv-loop μ-loop
+array-read-end c = search needs
 
 cast-m : tie.Need-cast-m Inv-loop μ-loop
 cast-m c = search needs
@@ -39,7 +42,7 @@ loop-holds c =
 over-last-requires : tie.Need-over-last-requires Inv-loop μ-loop
 over-last-requires c κs =
     let b = c .before .before .before .before .before .before in
-    (b .pre .0, record { threshold = b .pre .1; inside = omega arith; some-cores = omega arith; room = omega arith })
+    (b .pre .0, record { threshold = b .pre .1; inside = omega arith; some-cores = omega arith; room = omega arith }, b .pre .3 .at 0 (omega arith))
 
 lesser-requires : tie.Need-lesser-requires Inv-loop μ-loop
 lesser-requires c κs = search needs
@@ -73,6 +76,7 @@ least-cores-spec =
     (tie.spec
     Inv-loop
     μ-loop
+    array-read-end
     cast-m
     add-m
     loop-holds

@@ -8,6 +8,7 @@ use borrow.Author.Needs.{needs}
 use Rattle.modules.specs.Model.{chainOf}
 use Rattle.search.proofs.Least.{lesser-le}
 use Rattle.planners.proofs.Cells.{read-size, copies-none, copies-some}
+use Rattle.planners.proofs.Fitting.{reached-inside}
 use Rattle.planners.proofs.table.over_copies.Statement.{statement}
 use Rattle.planners.proofs.table.over_copies.Tie as tie
 
@@ -77,7 +78,8 @@ returns-3 c =
 read-table-requires : tie.Need-read-table-requires
 read-table-requires c κs =
     let b = c .before .before .before .before .before .before .before .before .before in
-    (b .pre .0, omega arith, omega arith, omega arith, omega arith, omega arith)
+    let inside = reached-inside (b .pre .2 .reached) in
+    (b .pre .0, omega arith, omega arith, omega arith, inside, omega arith)
 
 add-lesser : tie.Need-add-lesser
 add-lesser c = search needs

@@ -14,6 +14,7 @@ use Rattle.search.proofs.Least.{least-more}
 use Rattle.search.proofs.Fill.{next-last, next-start, next-end}
 use Rattle.planners.specs.Search.{problem}
 use Rattle.planners.proofs.Cells.{chain-cap, loaded, least-most}
+use Rattle.planners.proofs.Fitting.{reached-inside}
 use Rattle.planners.proofs.table.over_next.Statement.{statement}
 use Rattle.planners.proofs.table.over_next.Tie as tie
 
@@ -50,7 +51,7 @@ over-copies-requires : tie.Need-over-copies-requires Inv-loop μ-loop
 over-copies-requires c κs =
     let b = c .before .before .before .before .before .before .before in
     let z = c .before .before .before .before .transfer in
-    (b .pre .0, b .pre .1, loaded (b .pre .2) (b .pre .3) (b .pre .4) (z .ensures) (omega arith) (c .before .before .before .body .ensures) (c .before .before .copies-allowed .ensures), omega arith)
+    (b .pre .0, b .pre .1, loaded (b .pre .2) (b .pre .3) (z .ensures) (omega arith) (c .before .before .before .body .ensures) (c .before .before .copies-allowed .ensures), omega arith)
 
 returns : tie.Need-returns Inv-loop μ-loop
 returns c =
@@ -72,15 +73,16 @@ add-m c = omega arith
 
 loop-holds : tie.Need-loop-holds Inv-loop μ-loop
 loop-holds c =
-    let a = c .before .before .before .before .before .before .before .before .before .args in
+    let b = c .before .before .before .before .before .before .before .before .before in
+    let a = b .args in
     let k = chainOf (a .costs .now) (a .board) in
-    (omega arith, omega arith, sym (chain-cap k) ∙ next-start (problem k) (a .n) (a .work .now) (a .s) (a .t) (a .q) (a .l) (omega arith))
+    (omega arith, omega arith, sym (chain-cap k) ∙ next-start (problem k) (a .n) (a .work .now) (a .s) (a .t) (a .q) (a .l) (omega (arith, reached-inside (b .pre .2))))
 
 over-copies-requires-2 : tie.Need-over-copies-requires-2 Inv-loop μ-loop
 over-copies-requires-2 c κs =
     let d = c .before .before .before .before .before .before in
     let b = d .before .before .before .before .before in
-    (b .pre .0, b .pre .1, loaded (b .pre .2) (b .pre .3) (b .pre .4) (d .before .before .transfer .ensures) (omega arith) (d .before .body .ensures) (d .copies-allowed .ensures), omega arith)
+    (b .pre .0, b .pre .1, loaded (b .pre .2) (b .pre .3) (d .before .before .transfer .ensures) (omega arith) (d .before .body .ensures) (d .copies-allowed .ensures), omega arith)
 
 lesser-requires : tie.Need-lesser-requires Inv-loop μ-loop
 lesser-requires c κs = search needs
