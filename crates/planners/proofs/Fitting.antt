@@ -2,9 +2,11 @@
 -- nothing.
 use mathlib.Core.Path.{_≡_, _∙_}
 use mathlib.Core.Bool.{Bool, true, false, not, and-true}
+use mathlib.Core.List.{List}
 use Prim.Native.Nat.{ℕ, _+_, _*_, _≤_, _<_}
 use native.Mathlib.Nat.{mul-le-mul-right}
 use native.Mathlib.Omega.{arith}
+use lib.ListN.{getD}
 use lib.Dec.{leb}
 use borrow.Author.Tests.{lt-ltb, le-leb, ltb-true, leb-true, not-true, not-false}
 use Rattle.records.proofs.Cases as cases
@@ -13,11 +15,15 @@ use Rattle.modules.specs.Model.{Chain, response}
 use Rattle.modules.specs.Rules.{moduleRules}
 use Rattle.modules.proofs.Laws.{reach-inside, rules-reach}
 use Rattle.search.specs.Best.{fitsAt}
-use Rattle.planners.specs.Search.{grain, problem, Reached}
+use Rattle.planners.specs.Search.{grain, problem, Reached, EachReach}
 
 -- a module that ends within its reach ends in the chain
 pub reached-inside : {c : Chain} {t l : ℕ} → Reached c t l → l ≤ c .tasks
 reached-inside {c} {t} h = omega (arith, h .within, reach-inside c (t + 1))
+
+-- up to the reach that was worked out it ends within it
+pub reached-up-to : {c : Chain} {reaches : List ℕ} {t l : ℕ} → EachReach c reaches → t < c .tasks → t < l → l ≤ getD reaches t 0 → Reached c t l
+reached-up-to {c} {reaches} {t} each inside later h = record { later = later; within = omega (arith, each .at t inside) }
 
 module _ (c : Chain) (n s t l r p q : ℕ) where
   -- the module of tasks t + 1 to l fits between modules of s and q cores

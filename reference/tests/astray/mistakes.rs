@@ -24,6 +24,23 @@ pub struct Mistake {
 }
 
 impl Mistake {
+    const fn new(what: &'static str, shows_in: &'static str, services: Services) -> Mistake {
+        Mistake {
+            what,
+            shows_in,
+            refusals: None,
+            services,
+        }
+    }
+
+    /// The same, told by the number that is due and the one found.
+    const fn with_refusals(self, due: u32, found: u32) -> Mistake {
+        Mistake {
+            refusals: Some((due, found)),
+            ..self
+        }
+    }
+
     /// Whether the difference is the one that the mistake must show.
     pub fn is_told_by(&self, difference: &Difference) -> bool {
         let numbers = match self.refusals {
@@ -38,39 +55,26 @@ const fn in_best_plan(
     what: &'static str,
     best_plan: fn(&[u8], &mut [u8], &mut [u32]) -> Answer,
 ) -> Mistake {
-    Mistake {
-        what,
-        shows_in: "best plan",
-        refusals: None,
-        services: Services {
-            best_plan,
-            ..REFERENCE
-        },
-    }
+    let services = Services {
+        best_plan,
+        ..REFERENCE
+    };
+    Mistake::new(what, "best plan", services)
 }
 
 const fn in_greedy_plan(
     what: &'static str,
     greedy_plan: fn(&[u8], u16, &mut [u8]) -> Answer,
 ) -> Mistake {
-    Mistake {
-        what,
-        shows_in: "greedy plan",
-        refusals: None,
-        services: Services {
-            greedy_plan,
-            ..REFERENCE
-        },
-    }
+    let services = Services {
+        greedy_plan,
+        ..REFERENCE
+    };
+    Mistake::new(what, "greedy plan", services)
 }
 
 const fn in_judge(what: &'static str, judge: fn(&[u8], &[u8]) -> Answer) -> Mistake {
-    Mistake {
-        what,
-        shows_in: "judge",
-        refusals: None,
-        services: Services { judge, ..REFERENCE },
-    }
+    Mistake::new(what, "judge", Services { judge, ..REFERENCE })
 }
 
 /// All wrong planners.

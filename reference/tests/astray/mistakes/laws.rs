@@ -26,11 +26,12 @@ pub fn mistakes() -> impl Iterator<Item = Mistake> {
 }
 
 /// A wrong refusal: the number that is due, and the one found; 0 is none.
-const fn in_refusal(what: &'static str, numbers: (u32, u32), fill_costs: FillCosts) -> Mistake {
-    Mistake {
-        refusals: Some(numbers),
-        ..in_part(what, "fill costs: refusal", fill_costs)
-    }
+const fn in_refusal(
+    what: &'static str,
+    (due, found): (u32, u32),
+    fill_costs: FillCosts,
+) -> Mistake {
+    in_part(what, "fill costs: refusal", fill_costs).with_refusals(due, found)
 }
 
 const fn in_place(what: &'static str, fill_costs: FillCosts) -> Mistake {
@@ -46,13 +47,9 @@ const fn in_output(what: &'static str, fill_costs: FillCosts) -> Mistake {
 }
 
 const fn in_part(what: &'static str, shows_in: &'static str, fill_costs: FillCosts) -> Mistake {
-    Mistake {
-        what,
-        shows_in,
-        refusals: None,
-        services: Services {
-            fill_costs,
-            ..REFERENCE
-        },
-    }
+    let services = Services {
+        fill_costs,
+        ..REFERENCE
+    };
+    Mistake::new(what, shows_in, services)
 }

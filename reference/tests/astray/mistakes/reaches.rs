@@ -19,11 +19,8 @@ pub fn mistakes() -> impl Iterator<Item = Mistake> {
 }
 
 /// A wrong refusal: the number that is due, and the one found; 0 is none.
-const fn in_refusal(what: &'static str, numbers: (u32, u32), reach: Reach) -> Mistake {
-    Mistake {
-        refusals: Some(numbers),
-        ..in_part(what, "reach: refusal", reach)
-    }
+const fn in_refusal(what: &'static str, (due, found): (u32, u32), reach: Reach) -> Mistake {
+    in_part(what, "reach: refusal", reach).with_refusals(due, found)
 }
 
 const fn in_place(what: &'static str, reach: Reach) -> Mistake {
@@ -35,10 +32,5 @@ const fn in_count(what: &'static str, reach: Reach) -> Mistake {
 }
 
 const fn in_part(what: &'static str, shows_in: &'static str, reach: Reach) -> Mistake {
-    Mistake {
-        what,
-        shows_in,
-        refusals: None,
-        services: Services { reach, ..REFERENCE },
-    }
+    Mistake::new(what, shows_in, Services { reach, ..REFERENCE })
 }

@@ -6,6 +6,7 @@ use borrow.Author.Count.{below-more}
 use borrow.Author.Needs.{needs}
 use Rattle.modules.specs.Model.{chainOf}
 use Rattle.modules.proofs.Laws.{reach-inside}
+use Rattle.planners.proofs.Fitting.{reached-up-to}
 use Rattle.planners.proofs.Coming.{NoneBelow, comes-not, some-reached, last-comes, next-is}
 use Rattle.planners.proofs.path.next_module.Statement.{statement}
 use Rattle.planners.proofs.path.next_module.Tie as tie
@@ -36,8 +37,7 @@ loop-holds c =
 first-copies-requires : tie.Need-first-copies-requires Inv-loop μ-loop
 first-copies-requires c κs =
     let s = c .before .before .before .before .before .before in
-    let end = s .pre .5 .at (s .args .m .last) (s .pre .2) in
-    (s .pre .0, s .pre .1, s .pre .6, record { later = omega arith; within = omega (arith, end) })
+    (s .pre .0, s .pre .1, s .pre .6, reached-up-to (s .pre .5) (s .pre .2) (omega arith) (omega arith))
 
 returns : tie.Need-returns Inv-loop μ-loop
 returns c =
@@ -45,8 +45,7 @@ returns c =
     let a = s .args in
     let l = c .before .before .before .before .loop in
     let x = c .before .before .first-copies in
-    let end = s .pre .5 .at (a .m .last) (s .pre .2) in
-    next-is (chainOf (a .costs .now) (a .board)) (a .work .now) (a .n) (a .m) (s .pre .4) (l .l) (x .result) (record { later = omega arith; within = omega (arith, end) }) (l .inv .2) (x .ensures) (omega arith)
+    next-is (chainOf (a .costs .now) (a .board)) (a .work .now) (a .n) (a .m) (s .pre .4) (l .l) (x .result) (reached-up-to (s .pre .5) (s .pre .2) (omega arith) (omega arith)) (l .inv .2) (x .ensures) (omega arith)
 
 add-l-2 : tie.Need-add-l-2 Inv-loop μ-loop
 add-l-2 c =
@@ -62,8 +61,7 @@ loop-again c = (omega arith, omega arith, below-more _ _ (c .before .before .bef
 first-copies-requires-2 : tie.Need-first-copies-requires-2 Inv-loop μ-loop
 first-copies-requires-2 c κs =
     let s = c .before .before .before .before .before .before in
-    let end = s .pre .5 .at (s .args .m .last) (s .pre .2) in
-    (s .pre .0, s .pre .1, s .pre .6, record { later = omega arith; within = omega (arith, end) })
+    (s .pre .0, s .pre .1, s .pre .6, reached-up-to (s .pre .5) (s .pre .2) (omega arith) (omega arith))
 
 returns-2 : tie.Need-returns-2 Inv-loop μ-loop
 returns-2 c =
@@ -72,9 +70,8 @@ returns-2 c =
     let k = chainOf (a .costs .now) (a .board) in
     let l = c .before .before .loop in
     let x = c .first-copies2 in
-    let end = s .pre .5 .at (a .m .last) (s .pre .2) in
-    let some = last-comes k (a .work .now) (a .n) (a .m) (l .l) (x .result) (omega (arith, end)) (s .pre .3) (l .inv .2) (x .ensures) in
-    next-is k (a .work .now) (a .n) (a .m) (s .pre .4) (l .l) (x .result) (record { later = omega arith; within = omega (arith, end) }) (l .inv .2) (x .ensures) some
+    let some = last-comes k (a .work .now) (a .n) (a .m) (l .l) (x .result) (omega (arith, s .pre .5 .at (a .m .last) (s .pre .2))) (s .pre .3) (l .inv .2) (x .ensures) in
+    next-is k (a .work .now) (a .n) (a .m) (s .pre .4) (l .l) (x .result) (reached-up-to (s .pre .5) (s .pre .2) (omega arith) (omega arith)) (l .inv .2) (x .ensures) some
 
 pub next-module-spec : {M : Type 1} → statement M
 next-module-spec =

@@ -7,31 +7,38 @@ use crate::mistakes::{Mistake, in_best_plan};
 use reference::answer::Answer;
 use reference::costs::Chain;
 use reference::every;
-use reference::plan;
+use reference::plan::{self, Module};
 use reference::reach::{longest_by, reach_of};
 
 pub const MISTAKES: [Mistake; 5] = [
     // "Best plan … works out no response for a module beyond it. Every answer and refusal is the one given before."
     in_best_plan("reaches by P − 1 cores", |costs, plan, work| {
-        let reach_of = |chain: &Chain, first| longest_by(with_a_core_less, chain, first);
-        within(reach_of, costs, plan, work)
+        within_longest(with_a_core_less, costs, plan, work)
     }),
     in_best_plan("reaches by one core's memory", |costs, plan, work| {
-        let reach_of = |chain: &Chain, first| longest_by(on_one_core, chain, first);
-        within(reach_of, costs, plan, work)
+        within_longest(on_one_core, costs, plan, work)
     }),
     in_best_plan("reaches of replicable modules", |costs, plan, work| {
-        let reach_of = |chain: &Chain, first| longest_by(replicable, chain, first);
-        within(reach_of, costs, plan, work)
+        within_longest(replicable, costs, plan, work)
     }),
     in_best_plan("reaches of less than the board", |costs, plan, work| {
-        let reach_of = |chain: &Chain, first| longest_by(below_board, chain, first);
-        within(reach_of, costs, plan, work)
+        within_longest(below_board, costs, plan, work)
     }),
     in_best_plan("the reach of the next task", |costs, plan, work| {
         within(|chain, first| reach_of(chain, first + 1), costs, plan, work)
     }),
 ];
+
+/// Best plan of modules that end within the longest one that passes.
+fn within_longest(
+    passes: fn(&Chain, Module) -> bool,
+    costs: &[u8],
+    plan: &mut [u8],
+    work: &mut [u32],
+) -> Answer {
+    let reach_of = |chain: &Chain, first| longest_by(passes, chain, first);
+    within(reach_of, costs, plan, work)
+}
 
 /// Best plan of modules that end within such reaches.
 fn within(
