@@ -9,7 +9,7 @@
  *  - an empty slice has count 0; its pointer is not looked at and may be any.
  *
  * What a target without an operating system has to offer, measured on x86-64:
- *  - some 19 KB for code; the library has no data and no bss;
+ *  - some 20 KB for code; the library has no data and no bss;
  *  - `memset`, the only symbol that it needs from outside;
  *  - beside what is lent, stack for a call: some 600 bytes to judge, 1,500 for the greedy plan, 1,100 for the best, 300 to fill in
  *    costs or for a reach;
@@ -32,8 +32,9 @@ extern "C" {
 #define ZOMBREKI_WORK_WORDS 16384
 
 /* The number of a refusal (0 for none) and its place, or the figures of a plan. A refusal has zero figures. The costs are
- * refused with 1 to 6, the call with 7, 8 and 10, a judged plan with 12 to 16 (16 before 15: a copy of a module has more
- * cores than byte b of one of its tasks' records allows), and where there is no such plan the planners refuse with 9 and 11. */
+ * refused with 1 to 6, the call with 7, 8 and 10, a judged plan with 12 to 16 (14: the shares of a module's tasks, each need /
+ * cores of a copy rounded up, add to more than the capacity of a core; 16, before 15: a copy of a module has more cores than
+ * byte b of one of its tasks' records allows), and where there is no such plan the planners refuse with 9 and 11. */
 struct zombreki_answer {
     uint32_t refusal;  /* 0, or the number of the refusal */
     uint32_t place;    /* the record or module at fault, counted from 1; 0 where none is named */

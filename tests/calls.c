@@ -225,7 +225,8 @@ static void refuses_laws(const uint8_t *costs)
 }
 
 /* Document 02, M-102: the last task of the longest module that the dock's four cores hold. Byte 4 of the file is the capacity: 49
- * for each core is too little for both tasks. Byte 19 is the limit of task 2, whose record is the third. */
+ * for each core is too little for both tasks, whose shares are 13 and 38. Byte 19 is the limit of task 2, whose record is the
+ * third. */
 static void finds_reaches(const uint8_t *costs, size_t length)
 {
     uint8_t changed[248];
@@ -241,6 +242,43 @@ static void finds_reaches(const uint8_t *costs, size_t length)
     expect("reach, limit above 32", fills(zombreki_reach(changed, length, 1), 6, 3, 0));
     expect("reach, a record short", fills(zombreki_reach(costs, length - 8, 1), 4, 0, 0));
     expect("reach, none", fills(zombreki_reach(NULL, 0, 1), 1, 0, 0));
+}
+
+/* Document 02, M-103: needs 5 and 5, bytes 12 and 20, with capacity 5. On two cores the shares are 3 and 3, on three 2 and 2, and
+ * on 255 one each. */
+static void judges_shares(const uint8_t *costs, size_t length)
+{
+    uint8_t even[248];
+    uint8_t plan[48] = {1, 2, 1, 2};
+    memcpy(even, costs, sizeof even);
+    even[4] = even[12] = even[20] = 5;
+    expect("judge, 3 + 3 of 5", answers(zombreki_judge(even, length, plan, 48), (uint32_t[]){14, 1, 0, 0, 0, 0, 0}));
+    plan[3] = 3;
+    expect("judge, 2 + 2 of 5", answers(zombreki_judge(even, length, plan, 48), (uint32_t[]){0, 0, 1, 3, 1, 14, 1}));
+    plan[3] = 255;
+    expect("judge, 1 + 1 of 5", answers(zombreki_judge(even, length, plan, 48), (uint32_t[]){15, 0, 0, 0, 0, 0, 0}));
+    even[4] = 1;
+    expect("judge, 1 + 1 of 1", answers(zombreki_judge(even, length, plan, 48), (uint32_t[]){14, 1, 0, 0, 0, 0, 0}));
+}
+
+/* With capacity 50 both tasks fit at no count of the dock's cores: the shares of 50 and 150 are 13 and 38 on all four. */
+static void plans_by_shares(const uint8_t *costs, size_t length)
+{
+    static uint32_t work[ZOMBREKI_WORK_WORDS];
+    uint8_t narrow[248];
+    uint8_t plan[52];
+    memcpy(narrow, costs, sizeof narrow);
+    narrow[4] = 50;
+    memset(plan, 255, sizeof plan);
+    expect("greedy, capacity 50",
+           answers(zombreki_greedy_plan(narrow, length, 0, plan, sizeof plan), (uint32_t[]){11, 0, 0, 0, 0, 0, 0}));
+    expect("greedy, capacity 50: plan as lent", plan[0] == 255 && plan[47] == 255);
+    expect("best, capacity 50", answers(zombreki_best_plan(narrow, length, plan, sizeof plan, work, ZOMBREKI_WORK_WORDS),
+                                        (uint32_t[]){0, 0, 2, 4, 1, 14, 1}));
+    expect("best, capacity 50: plan", holds(plan, (uint8_t[]){1, 1, 1, 1, 2, 2, 1, 3}, 8));
+    expect("reach, capacity 50", fills(zombreki_reach(narrow, length, 1), 0, 0, 1));
+    narrow[4] = 51;
+    expect("reach, capacity 51", fills(zombreki_reach(narrow, length, 1), 0, 0, 2));
 }
 
 int main(int argc, char **argv)
@@ -262,6 +300,8 @@ int main(int argc, char **argv)
     fills_five_terms(costs);
     refuses_laws(costs);
     finds_reaches(costs, length);
+    judges_shares(costs, length);
+    plans_by_shares(costs, length);
     if (failures)
         return 1;
     puts("calls: ok");

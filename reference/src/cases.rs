@@ -6,6 +6,7 @@ mod times;
 
 use crate::costs::{self, Chain, MOST_CORES};
 use crate::random::Random;
+use crate::{greedy, reach};
 
 #[derive(Clone, Copy, Debug, PartialEq, Eq)]
 pub enum Kind {
@@ -17,9 +18,9 @@ pub enum Kind {
     Zeros,
     /// Times that rise and fall with the cores.
     NotMonotone,
-    /// All tasks need nearly or exactly the memory of the whole board.
+    /// Along one plan of all cores, the shares of each module are exactly or nearly the capacity.
     TightMemory,
-    /// More memory needed than there is, often by one KiB.
+    /// More memory needed than there is, often by one KiB; or as much as there is, in shares that mostly do not come out even.
     NoPlan,
     /// Some task is not replicable.
     NotReplicable,
@@ -31,11 +32,15 @@ pub enum Kind {
     Limits,
     /// Core limits that are what the memory of a few neighbouring tasks asks for, or a little beside it.
     TightLimits,
-    /// Some neighbouring tasks need just the memory of the whole board or a KiB more; others from nothing to a KiB more than it has.
+    /// On all cores of the board, the shares of some neighbouring tasks are just the capacity or a KiB more; others are from
+    /// nothing to a KiB more.
     Reaches,
+    /// Along one plan, the shares of a module are just the capacity or a KiB more; or a core has few KiB, often fewer than there
+    /// are tasks with a need; or needs are the greatest. Times are the same at all counts of cores.
+    Shares,
 }
 
-pub const KINDS: [Kind; 12] = [
+pub const KINDS: [Kind; 13] = [
     Kind::Random,
     Kind::Ties,
     Kind::Zeros,
@@ -48,6 +53,7 @@ pub const KINDS: [Kind; 12] = [
     Kind::Limits,
     Kind::TightLimits,
     Kind::Reaches,
+    Kind::Shares,
 ];
 
 /// A file with what it was made from.
@@ -57,13 +63,25 @@ pub struct Case {
     pub costs: Vec<u8>,
 }
 
-/// A file small enough for trying all plans; the seed fixes it, and each twelve seeds in turn cover all kinds.
+impl Case {
+    /// The chain of its costs.
+    pub fn chain(&self) -> Chain {
+        costs::read(&self.costs).expect("an accepted file")
+    }
+}
+
+/// A file small enough for trying all plans; the seed fixes it, and each thirteen seeds in turn cover all kinds.
 pub fn small(seed: u64) -> Case {
     let mut random = Random::new(seed);
     let (tasks, cores) = small_size(&mut random);
     let kind = KINDS[(seed % KINDS.len() as u64) as usize];
     let costs = costs::write(&chain(kind, tasks, cores, &mut random));
     Case { seed, kind, costs }
+}
+
+/// Small files, so many of each kind.
+pub fn small_of_each(of_each_kind: usize) -> impl Iterator<Item = Case> {
+    (0..(of_each_kind * KINDS.len()) as u64).map(small)
 }
 
 /// A file of the given kind and size; the seed fixes it.
@@ -90,6 +108,7 @@ fn chain(kind: Kind, tasks: usize, cores: usize, random: &mut Random) -> Chain {
             times::set_realistic(&mut chain, random);
         }
         Kind::Hidden => times::set_hidden(&mut chain, random),
+        Kind::Shares => times::set_even(&mut chain, random),
         _ => times::set_drawn(&mut chain, kind, random),
     }
     memory::set(&mut chain, kind, random);
@@ -143,8 +162,7 @@ fn set_tight_limits(chain: &mut Chain, random: &mut Random) {
     let mut first = 1;
     while first <= chain.tasks {
         let last = random.within(first, chain.tasks.min(first + 2));
-        let need: u32 = chain.needs[first - 1..last].iter().sum();
-        let fewest = need.div_ceil(chain.capacity).max(1) as usize;
+        let fewest = greedy::fewest_cores(chain, reach::of_one_core(first, last));
         let limit = if random.once_in(4) {
             (fewest - 1).max(1)
         } else {

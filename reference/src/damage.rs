@@ -3,8 +3,9 @@
 pub mod laws;
 
 use crate::cases;
-use crate::costs::RECORD_BYTES;
-use crate::plan::{self, Module, PLAN_BYTES};
+use crate::costs::{Chain, RECORD_BYTES};
+use crate::greedy;
+use crate::plan::{self, Module, PLAN_BYTES, RULES};
 use crate::random::Random;
 
 #[derive(Clone, Copy, Debug, PartialEq, Eq)]
@@ -176,4 +177,17 @@ pub fn random_plan(tasks: usize, cores: usize, random: &mut Random) -> [u8; PLAN
         plan[random.below(PLAN_BYTES)] = random.pick(&[0, 1, 2, 3, 12, 32, 255]);
     }
     plan
+}
+
+/// A plan of modules that have the fewest cores that their memory allows, or one more or less; or the most that a byte can say.
+pub fn tight_plan(chain: &Chain, random: &mut Random) -> [u8; PLAN_BYTES] {
+    let grouping = random.word() as u16 & ((1 << (chain.tasks - 1)) - 1);
+    let groups = greedy::groups(chain.tasks, grouping);
+    let mut modules = greedy::with_fewest_cores(RULES.fits, chain, groups);
+    for module in &mut modules {
+        let fewest = module.cores;
+        module.copies = random.pick(&[1, 1, 1, 2]);
+        module.cores = random.pick(&[fewest, fewest, fewest + 1, fewest.max(2) - 1, 255]);
+    }
+    plan::encode(&modules)
 }

@@ -2,7 +2,7 @@
 
 use crate::answer::{Answer, Refusal, answer};
 use crate::costs::{self, Chain};
-use crate::plan::{self, Load, Module, PLAN_BYTES};
+use crate::plan::{self, Load, Module, PLAN_BYTES, RULES, Rules};
 
 pub const WORK_WORDS: usize = 16_384;
 
@@ -46,14 +46,18 @@ fn planned(
 
 /// The first plan in module order of those of fewest cores of those of least bottleneck that keep the rules.
 pub fn search(chain: &Chain) -> Option<Vec<Module>> {
-    search_by(chain, plan::bottleneck)
+    search_by(RULES, plan::bottleneck, chain)
 }
 
-/// The search with any way to compute a plan's bottleneck.
-pub fn search_by(chain: &Chain, bottleneck: fn(&Chain, &[Module]) -> Load) -> Option<Vec<Module>> {
+/// The search with any tests of memory and of limits, and any way to compute a plan's bottleneck.
+pub fn search_by(
+    rules: Rules,
+    bottleneck: fn(&Chain, &[Module]) -> Load,
+    chain: &Chain,
+) -> Option<Vec<Module>> {
     let mut best: Option<(Load, usize, Vec<Module>)> = None;
     each_plan(chain, &mut |rival| {
-        if !plan::keeps_rules(chain, rival) {
+        if !plan::keeps_rules_by(rules, chain, rival) {
             return;
         }
         let (load, cores) = (bottleneck(chain, rival), plan::cores(rival));

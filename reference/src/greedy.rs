@@ -1,9 +1,9 @@
-//! Document 01's "Bench way", with the limits of document 02, M-100: the greedy procedure of 000, 4.1, with refusals 1 to 6,
-//! 7, 10, 11.
+//! Document 01's "Bench way", with the limits of document 02, M-100, and its test of memory, M-103: the greedy procedure of 000,
+//! 4.1, with refusals 1 to 6, 7, 10, 11.
 
 use crate::answer::{Answer, Refusal, answer};
 use crate::costs::{self, Chain};
-use crate::plan::{self, Module, PLAN_BYTES, Within};
+use crate::plan::{self, Module, PLAN_BYTES, RULES, Rule, Rules};
 
 /// Fills in the assignment that the greedy walk answers with, or leaves the plan bytes as they are.
 pub fn greedy_plan(costs: &[u8], grouping: u16, plan: &mut [u8]) -> Answer {
@@ -65,35 +65,42 @@ pub fn groups(tasks: usize, grouping: u16) -> Vec<Module> {
 /// The first assignment: each module has the fewest cores that its memory allows. Refusal 11 where these are more than the
 /// board has, or some module's more than its limit.
 pub fn start(chain: &Chain, modules: Vec<Module>) -> Result<Vec<Module>, Refusal> {
-    start_by(Module::within_limit, chain, modules)
+    start_by(RULES, chain, modules)
 }
 
-/// The first assignment with any test of the limits.
-pub fn start_by(
-    within: Within,
-    chain: &Chain,
-    modules: Vec<Module>,
-) -> Result<Vec<Module>, Refusal> {
-    let fewest = with_fewest_cores(chain, modules);
-    let all_within = fewest.iter().all(|module| within(module, chain));
-    if plan::cores(&fewest) > chain.cores || !all_within {
+/// The first assignment with any tests of memory and of limits.
+pub fn start_by(rules: Rules, chain: &Chain, modules: Vec<Module>) -> Result<Vec<Module>, Refusal> {
+    let fewest = with_fewest_cores(rules.fits, chain, modules);
+    fitting(rules.within, chain, fewest)
+}
+
+/// The modules with these cores, where the board has so many and each is within its limit by this test.
+pub fn fitting(within: Rule, chain: &Chain, modules: Vec<Module>) -> Result<Vec<Module>, Refusal> {
+    let all_within = modules.iter().all(|module| within(module, chain));
+    if plan::cores(&modules) > chain.cores || !all_within {
         return Err(Refusal::new(11));
     }
-    Ok(fewest)
+    Ok(modules)
 }
 
-/// The modules with the fewest cores that their memory allows.
-pub fn with_fewest_cores(chain: &Chain, mut modules: Vec<Module>) -> Vec<Module> {
+/// The modules with the fewest cores that a test of memory allows.
+pub fn with_fewest_cores(fits: Rule, chain: &Chain, mut modules: Vec<Module>) -> Vec<Module> {
     for module in &mut modules {
-        module.cores = fewest_cores(chain, *module);
+        module.cores = fewest_cores_by(fits, chain, *module);
     }
     modules
 }
 
-/// The fewest cores that the module's memory allows, one more than the board has where none of its cores do.
-pub fn fewest_cores(chain: &Chain, mut module: Module) -> usize {
+/// The fewest cores that the module's memory allows, one more than the board has where it fits at no count of them: M-103, "each
+/// such module counts as needing more than P".
+pub fn fewest_cores(chain: &Chain, module: Module) -> usize {
+    fewest_cores_by(RULES.fits, chain, module)
+}
+
+/// The same by any test of memory.
+pub fn fewest_cores_by(fits: Rule, chain: &Chain, mut module: Module) -> usize {
     module.cores = 1;
-    while !module.memory_fits(chain) && module.cores <= chain.cores {
+    while !fits(&module, chain) && module.cores <= chain.cores {
         module.cores += 1;
     }
     module.cores
@@ -128,11 +135,11 @@ pub fn walk_by(
 /// One more core for the first slowest module, its predecessor or its successor, by the bottleneck afterwards; where equal
 /// itself goes first, then the predecessor. A module at its limit takes none; nothing comes next where none of them may take it.
 pub fn give(chain: &Chain, current: &[Module]) -> Option<Vec<Module>> {
-    give_by(Module::within_limit, chain, current)
+    give_by(RULES.within, chain, current)
 }
 
 /// The same with any test of the limits.
-pub fn give_by(within: Within, chain: &Chain, current: &[Module]) -> Option<Vec<Module>> {
+pub fn give_by(within: Rule, chain: &Chain, current: &[Module]) -> Option<Vec<Module>> {
     let slowest = plan::slowest(&plan::loads(chain, current));
     give_around(slowest, within, chain, current)
 }
@@ -140,7 +147,7 @@ pub fn give_by(within: Within, chain: &Chain, current: &[Module]) -> Option<Vec<
 /// The same around any module, counted from 0, in place of the slowest one.
 pub fn give_around(
     module: usize,
-    within: Within,
+    within: Rule,
     chain: &Chain,
     current: &[Module],
 ) -> Option<Vec<Module>> {

@@ -1,35 +1,35 @@
-//! Document 01's Judge, with the limits of document 02, M-100: the figures of given plan bytes, or refusals 1 to 6, 7, 12, 13,
-//! 14, 16, 15, in this order.
+//! Document 01's Judge, with the limits of document 02, M-100, and its test of memory, M-103: the figures of given plan bytes, or
+//! refusals 1 to 6, 7, 12, 13, 14, 16, 15, in this order.
 
 use crate::answer::{Answer, Refusal, answer};
 use crate::costs::{self, Chain};
-use crate::plan::{self, Module, PLAN_BYTES, Within};
+use crate::plan::{self, Module, PLAN_BYTES, RULES, Rules};
 
 /// The figures of the plan in the first 48 bytes.
 pub fn judge(costs: &[u8], plan: &[u8]) -> Answer {
-    judge_by(Module::within_limit, costs, plan)
+    judge_by(RULES, costs, plan)
 }
 
-/// The service with any test of the limits.
-pub fn judge_by(within: Within, costs: &[u8], plan: &[u8]) -> Answer {
+/// The service with any tests of memory and of limits.
+pub fn judge_by(rules: Rules, costs: &[u8], plan: &[u8]) -> Answer {
     let read = costs::read(costs);
-    answer(read.and_then(|chain| figures_or_refusal(within, &chain, plan)))
+    answer(read.and_then(|chain| figures_or_refusal(rules, &chain, plan)))
 }
 
 /// The service on a chain in place of the bytes of its costs.
 pub fn judge_on(chain: &Chain, plan: &[u8]) -> Answer {
-    answer(figures_or_refusal(Module::within_limit, chain, plan))
+    answer(figures_or_refusal(RULES, chain, plan))
 }
 
-fn figures_or_refusal(within: Within, chain: &Chain, plan: &[u8]) -> Result<Answer, Refusal> {
+fn figures_or_refusal(rules: Rules, chain: &Chain, plan: &[u8]) -> Result<Answer, Refusal> {
     let Some(bytes) = plan.first_chunk::<PLAN_BYTES>() else {
         return Err(Refusal::new(7));
     };
     let modules = covering_modules(chain, bytes)?;
     let only_allowed_copies = |module: &Module| module.copies == 1 || module.replicable(chain);
     test_all(&modules, 13, only_allowed_copies)?;
-    test_all(&modules, 14, |module| module.memory_fits(chain))?;
-    test_all(&modules, 16, |module| within(module, chain))?;
+    test_all(&modules, 14, |module| (rules.fits)(module, chain))?;
+    test_all(&modules, 16, |module| (rules.within)(module, chain))?;
     if plan::cores(&modules) > chain.cores {
         return Err(Refusal::new(15));
     }

@@ -84,20 +84,32 @@ fn files(tasks: usize, cores: usize) -> Vec<(&'static str, Chain)> {
     ]
 }
 
-/// Costs of the largest board whose memory allows modules of at most three tasks (document 02, M-102). They have no plan, so that
-/// a search is one table.
-fn short_files() -> [(&'static str, Chain); 2] {
-    let with = |needs| Chain {
-        capacity: 1,
+/// Realistic costs of the largest board, with this memory.
+fn with_memory(capacity: u32, needs: Vec<u32>) -> Chain {
+    Chain {
+        capacity,
         needs,
         ..unlimited(Kind::Realistic, MOST_TASKS, MOST_CORES)
-    };
-    // every fourth task needs more than the board has, the others nothing; or three tasks need 30 cores
+    }
+}
+
+/// Modules of at most three tasks (document 02, M-102), and no plan, so that a search is one table.
+fn short_files() -> [(&'static str, Chain); 2] {
+    // every fourth task needs more than the board has, the others nothing
     let walls = [0, 0, 0, MOST_CORES as u32 + 1].repeat(MOST_TASKS / 4);
+    // one task needs ten cores, and three tasks 30; four fit on no count of the board's
+    let alike = vec![90; MOST_TASKS];
     [
-        ("three tasks and a wall", with(walls)),
-        ("three tasks, all alike", with(vec![10; MOST_TASKS])),
+        ("three tasks and a wall", with_memory(1, walls)),
+        ("three tasks, all alike", with_memory(9, alike)),
     ]
+}
+
+/// A core holds a KiB of each task and has three (document 02, M-103), so that no module has more than three tasks, whatever its
+/// cores; and there is a plan.
+fn short_file_with_plan() -> (&'static str, Chain) {
+    let chain = with_memory(3, vec![1; MOST_TASKS]);
+    ("three tasks, with a plan", chain)
 }
 
 /// A run makes so many searches of a file without a plan, since one takes a fraction of a millisecond.
@@ -172,7 +184,8 @@ fn print_filling() {
 const NOTES: &str = "\
 Reading the file is included, and so is the clearing of buffers: library and threshold clear the whole work area of 16,384
 words before and after the search. threshold is the library's search in Rust; paper finds the bottleneck only, in tables of
-its own, megabytes at 32 cores; every tries all plans. The two files of three tasks have no plan: a search is one table.";
+its own, megabytes at 32 cores; every tries all plans. The files of three tasks allow no longer module; two of them have no
+plan: a search is one table.";
 
 fn main() {
     println!("Best plan: medians of {RUNS} runs in milliseconds, one run of each search in turn.");
@@ -182,6 +195,8 @@ fn main() {
         "costs", "library", "threshold", "paper", "every", "lib/thresh.", "paper/lib", "every/lib"
     );
     print_rows(MOST_TASKS, MOST_CORES, &[LIBRARY, THRESHOLD, PAPER]);
+    let (name, chain) = short_file_with_plan();
+    print_row(name, &chain, &[LIBRARY, THRESHOLD, PAPER], 1);
     for (name, chain) in short_files() {
         print_row(name, &chain, &[LIBRARY, THRESHOLD], SHORT_SEARCHES);
     }

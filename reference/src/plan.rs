@@ -1,5 +1,5 @@
-//! Document 01, "The chain and the board" and "Plan bytes", with the limits of document 02, M-100: modules, rules, responses,
-//! figures and the 48 bytes.
+//! Document 01, "The chain and the board" and "Plan bytes", with the limits of document 02, M-100, and its test of memory,
+//! M-103: modules, rules, responses, figures and the 48 bytes.
 
 use crate::answer::{Answer, Refusal};
 use crate::costs::{Chain, MOST_TASKS};
@@ -23,11 +23,17 @@ impl Module {
         (self.first..=self.last).all(|task| chain.replicable(task))
     }
 
+    /// M-103: "A module fits if the shares, each need ÷ p rounded up, add to at most the capacity." On no cores none does.
     pub fn memory_fits(&self, chain: &Chain) -> bool {
-        let need: u64 = (self.first..=self.last)
-            .map(|task| u64::from(chain.need(task)))
-            .sum();
-        need <= self.cores as u64 * u64::from(chain.capacity)
+        self.cores > 0 && self.shares(chain) <= chain.capacity.into()
+    }
+
+    /// What each of its cores, of which there is one at least, holds: of every task a share, rounded up.
+    pub fn shares(&self, chain: &Chain) -> u64 {
+        let need = |task| u64::from(chain.need(task));
+        (self.first..=self.last)
+            .map(|task| need(task).div_ceil(self.cores as u64))
+            .sum()
     }
 
     /// The least of its tasks' limits, those without one left aside; none if no task has one.
@@ -50,8 +56,21 @@ impl Module {
     }
 }
 
-/// A test of a module against the limits of its tasks: `Module::within_limit`, or one that goes wrong.
-pub type Within = fn(&Module, &Chain) -> bool;
+/// A test of a module, by what its tasks need or allow.
+pub type Rule = fn(&Module, &Chain) -> bool;
+
+/// The tests of memory and of limits that a planner goes by.
+#[derive(Clone, Copy)]
+pub struct Rules {
+    pub fits: Rule,
+    pub within: Rule,
+}
+
+/// The right ones.
+pub const RULES: Rules = Rules {
+    fits: Module::memory_fits,
+    within: Module::within_limit,
+};
 
 /// The sum of copies times cores.
 pub fn cores(plan: &[Module]) -> usize {
@@ -60,15 +79,15 @@ pub fn cores(plan: &[Module]) -> usize {
 
 /// Whether the modules keep the rules of document 01 and are within the limits; they cover the tasks in order.
 pub fn keeps_rules(chain: &Chain, plan: &[Module]) -> bool {
-    keeps_rules_by(Module::within_limit, chain, plan)
+    keeps_rules_by(RULES, chain, plan)
 }
 
-/// The rules with any test of the limits.
-pub fn keeps_rules_by(within: Within, chain: &Chain, plan: &[Module]) -> bool {
+/// The rules with any tests of memory and of limits.
+pub fn keeps_rules_by(rules: Rules, chain: &Chain, plan: &[Module]) -> bool {
     cores(plan) <= chain.cores
         && plan.iter().all(|module| {
             let copies_allowed = module.copies == 1 || module.replicable(chain);
-            copies_allowed && module.memory_fits(chain) && within(module, chain)
+            copies_allowed && (rules.fits)(module, chain) && (rules.within)(module, chain)
         })
 }
 
@@ -177,4 +196,58 @@ pub fn enough_bytes(plan: &[u8]) -> Result<(), Refusal> {
         return Err(Refusal::new(7));
     }
     Ok(())
+}
+
+#[cfg(test)]
+mod tests {
+    use super::*;
+    use crate::cases::{constant, worked_example};
+
+    /// All tasks of the chain, in one copy of so many cores.
+    fn whole(chain: &Chain, cores: usize) -> Module {
+        Module {
+            first: 1,
+            last: chain.tasks,
+            copies: 1,
+            cores,
+        }
+    }
+
+    /// M-103: "Needs 5 and 5 with capacity 5 at p = 2 passed before; 3 + 3 does not."
+    #[test]
+    fn shares_of_two_tasks() {
+        let chain = Chain {
+            capacity: 5,
+            needs: vec![5, 5],
+            ..worked_example()
+        };
+        let fits = |cores| whole(&chain, cores).memory_fits(&chain);
+        assert_eq!(
+            [0, 1, 2, 3, 255].map(fits),
+            [false, false, false, true, true]
+        );
+    }
+
+    /// On no cores nothing fits, not even no need.
+    #[test]
+    fn nothing_fits_on_no_cores() {
+        let chain = constant(3, 4, 0);
+        assert!(!whole(&chain, 0).memory_fits(&chain));
+        assert!(whole(&chain, 1).memory_fits(&chain));
+    }
+
+    /// Rounded up: a share is the least whole number of which p times as much is at least the need.
+    #[test]
+    fn a_share_is_the_least_that_is_enough() {
+        for need in (0..600).chain([999_999, 1_000_000]) {
+            let chain = Chain {
+                needs: vec![need],
+                ..constant(1, 1, 0)
+            };
+            for cores in 1..=255 {
+                let held = whole(&chain, cores).shares(&chain) * cores as u64;
+                assert!(held >= need.into() && held < u64::from(need) + cores as u64);
+            }
+        }
+    }
 }

@@ -1,9 +1,9 @@
-//! Document 02, M-102, "A loop that ends sooner": the reach of a first task, with refusals 1 to 6.
+//! Document 02, M-102, "A loop that ends sooner": the reach of a first task, by M-103's test of memory, with refusals 1 to 6.
 
 use crate::answer::Filled;
 use crate::costs::{self, Chain};
 use crate::greedy;
-use crate::plan::Module;
+use crate::plan::{Module, RULES, Rule};
 
 /// The reach of a first task as the count, 0 for one that is not the chain's; or a refusal of the costs.
 pub fn reach(costs: &[u8], first: u8) -> Filled {
@@ -57,5 +57,10 @@ pub fn of_one_core(first: usize, last: usize) -> Module {
 
 /// Whether the module "needs at most P cores": the fewest that its memory allows, whatever its tasks' limits and flags.
 pub fn fits_board(chain: &Chain, module: Module) -> bool {
-    greedy::fewest_cores(chain, module) <= chain.cores
+    fits_board_by(RULES.fits, chain, module)
+}
+
+/// The same by any test of memory.
+pub fn fits_board_by(fits: Rule, chain: &Chain, module: Module) -> bool {
+    greedy::fewest_cores_by(fits, chain, module) <= chain.cores
 }

@@ -1,18 +1,21 @@
 //! All services on one file, accepted or damaged, compared, with a count of what was met.
 
 pub mod laws;
+pub mod memory;
 pub mod reaches;
 
 use crate::answer::Answer;
 use crate::cases::Case;
 use crate::compare::{self, Both, Difference, Lent};
+use crate::costs;
 use crate::damage;
 use crate::every::WORK_WORDS;
 use crate::plan::PLAN_BYTES;
 use crate::random::Random;
 use crate::tally::Tally;
 
-/// Best plan; Judge on its plan; the greedy plan with every grouping, and Judge on each; Judge on some random plans; the reaches.
+/// Best plan; Judge on its plan; the greedy plan with every grouping, and Judge on each; Judge on some random plans, and on some
+/// whose memory just suffices or does not; the reaches.
 pub fn all(both: &Both, case: &Case, tally: &mut Tally) -> Result<(), Difference> {
     let mut random = Random::new(!case.seed);
     let lent = Lent {
@@ -30,6 +33,7 @@ pub fn all(both: &Both, case: &Case, tally: &mut Tally) -> Result<(), Difference
         let answer = compare::judge(both, &plan)?;
         count("judge", answer, tally);
     }
+    memory::judged(both, case, &mut random, tally)?;
     reaches::all(both, case, &mut random, tally)
 }
 
@@ -40,14 +44,16 @@ fn all_groupings(
     lent: Lent,
     tally: &mut Tally,
 ) -> Result<(), Difference> {
+    let chain = costs::read(&case.costs).expect("an accepted file");
     let tasks = case.costs[3];
     let allowed = 0..1 << (tasks - 1);
     let beyond = (tasks - 1..16).map(|bit| 1 << bit | 1);
-    for grouping in allowed.chain(beyond) {
+    for grouping in allowed.clone().chain(beyond) {
         let (answer, plan) = compare::greedy_plan(both, grouping, lent)?;
         count("greedy plan", answer, tally);
         judge_filled(both, answer, &plan)?;
     }
+    allowed.for_each(|grouping| memory::count_start(&chain, grouping, tally));
     Ok(())
 }
 

@@ -2,6 +2,7 @@
 
 use crate::answer::{Answer, Filled};
 use crate::costs::Chain;
+use crate::plan::PLAN_BYTES;
 use crate::{every, greedy, judge, laws, library, reach, threshold};
 
 /// A provider of document 01's three services, and of document 02's.
@@ -45,6 +46,12 @@ impl Services {
     pub fn on(self, costs: &[u8]) -> OnBytes<'_> {
         let services = self;
         OnBytes { services, costs }
+    }
+
+    /// Whether it finds a plan that keeps the rules.
+    pub fn has_plan(self, costs: &[u8]) -> bool {
+        let (mut plan, mut work) = ([0; PLAN_BYTES], vec![0; every::WORK_WORDS]);
+        (self.best_plan)(costs, &mut plan, &mut work).refusal == 0
     }
 }
 

@@ -16,6 +16,11 @@ impl Tally {
         self.counts.get(what).copied().unwrap_or(0)
     }
 
+    /// The names of all that occurred.
+    pub fn names(&self) -> impl Iterator<Item = &str> {
+        self.counts.keys().map(String::as_str)
+    }
+
     /// Fails unless the thing occurred so often.
     pub fn assert_at_least(&self, what: &str, least: usize) {
         let count = self.count(what);

@@ -111,7 +111,7 @@ fn parse(line: &str) -> Result<Case, String> {
 mod tests {
     use super::*;
 
-    const RIGHT: &str = "small dock, capacity = 50: best plan => plan 1 2 1 4; 1 module, 4 cores, slowest 1, response 11, r 1";
+    const RIGHT: &str = "small dock, capacity = 50: best plan => plan 1 1 1 1, 2 2 1 3; 2 modules, 4 cores, slowest 1, response 14, r 1";
 
     #[test]
     fn a_right_line_passes() {
@@ -126,7 +126,7 @@ mod tests {
         let digits = RIGHT.char_indices().filter(|(_, c)| c.is_ascii_digit());
         for (i, _) in digits.filter(|&(i, _)| i > due) {
             let mut wrong = RIGHT.to_string();
-            wrong.replace_range(i..=i, "3");
+            wrong.replace_range(i..=i, "5");
             assert!(run(&wrong).is_err(), "{wrong}");
         }
         for wrong in [
@@ -135,6 +135,7 @@ mod tests {
             "small dock: read => refusal 4",
             "small dock, capacity = 0: read => accepted",
             "small dock: reach of task 1 => reach 1",
+            "small dock, capacity = 50: reach of task 1 => reach 2",
             "small dock: reach of task 3 => reach 2",
             "small dock: reach of task 3 => refusal 5",
             "small dock, capacity = 0: reach of task 1 => reach 0",

@@ -18,6 +18,7 @@ fn files() -> Vec<Case> {
         Kind::TightMemory,
         Kind::Limits,
         Kind::Reaches,
+        Kind::Shares,
     ];
     let mut files: Vec<Case> = kinds
         .into_iter()
@@ -33,6 +34,12 @@ fn files() -> Vec<Case> {
         let seed = 0;
         files.push(Case { seed, kind, costs });
     }
+    let refusal = |case: &Case| {
+        let (mut plan, mut work) = ([0; PLAN_BYTES], vec![0; WORK_WORDS]);
+        (REFERENCE.best_plan)(&case.costs, &mut plan, &mut work).refusal
+    };
+    let refusals: Vec<u32> = files.iter().map(refusal).collect();
+    assert_eq!(refusals, [0, 0, 9, 0, 0, 9, 0, 0, 6, 1, 1]);
     files
 }
 

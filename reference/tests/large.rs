@@ -72,6 +72,7 @@ fn most_tasks_and_cores() {
     tally.assert_at_least("best plan: figures", 32);
     tally.assert_at_least("best plan: refusal 9", 4);
     tally.assert_at_least("best plan: several modules", 10);
+    tally.assert_at_least("reach: shorter than by needs added up", 12);
 }
 
 #[test]
@@ -89,7 +90,7 @@ fn greatest_and_least_times() {
 
 #[test]
 fn sizes_between() {
-    let files = (0..216).map(|seed| {
+    let files = (0..17 * KINDS.len() as u64).map(|seed| {
         let mut random = Random::new(!seed);
         let (tasks, cores) = (random.within(4, 12), random.within(8, 20));
         let kind = KINDS[seed as usize % KINDS.len()];
@@ -105,6 +106,8 @@ fn sizes_between() {
         ("reach: in the middle", 16),
         ("reach: one short of k", 12),
         ("reach: k", 800),
+        ("reach: shorter than by needs added up", 60),
+        ("reach: with the next task it fits at no count", 40),
     ] {
         tally.assert_at_least(what, least);
     }

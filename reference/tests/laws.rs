@@ -94,6 +94,9 @@ fn filled_in_and_planned() {
         ("reach: in the middle", 85),
         ("reach: one short of k", 440),
         ("reach: k", 17_000),
+        ("greedy plan: refusal 11, not by needs added up", 600),
+        ("judge: refusal 14, not by needs added up", 450),
+        ("reach: shorter than by needs added up", 500),
     ] {
         tally.assert_at_least(what, least);
     }

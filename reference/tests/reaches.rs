@@ -1,20 +1,15 @@
-//! Document 02, M-102: "a module needs at most P cores exactly if it ends within its reach". The reaches are the library's; what
-//! needs at most P cores, the second planner says, and the library's Judge. Then where reaches end in the files that are made.
+//! Document 02, M-102: "a module needs at most P cores exactly if it ends within its reach", by M-103's test of memory. The
+//! reaches are the library's; what needs at most P cores, the second planner says, and the library's Judge. Then where reaches
+//! end in the files that are made.
 
 use reference::answer::{Answer, Filled};
 use reference::cases::{self, Case, KINDS, Kind};
-use reference::costs::{self, Chain, MOST_CORES, MOST_TASKS};
-use reference::every::WORK_WORDS;
-use reference::plan::{self, Module, PLAN_BYTES};
+use reference::costs::{MOST_CORES, MOST_TASKS};
+use reference::plan::Module;
 use reference::reach;
 use reference::round;
 use reference::services::{LIBRARY, QUICK_REFERENCE};
 use reference::tally::Tally;
-
-/// Small files, so many of each kind.
-fn small_files(of_each_kind: usize) -> impl Iterator<Item = Case> {
-    (0..(of_each_kind * KINDS.len()) as u64).map(cases::small)
-}
 
 /// Files of the most tasks and cores: one of each kind, and forty more of the one that is made for this.
 fn large_files() -> impl Iterator<Item = Case> {
@@ -22,10 +17,6 @@ fn large_files() -> impl Iterator<Item = Case> {
     let more = (1..=40).map(|seed| (Kind::Reaches, seed));
     let sized = |(kind, seed)| cases::sized(kind, MOST_TASKS, MOST_CORES, seed);
     of_each.chain(more).map(sized)
-}
-
-fn chain_of(case: &Case) -> Chain {
-    costs::read(&case.costs).expect("an accepted file")
 }
 
 /// The library's reach of a first task: one that the module can end with, or 0.
@@ -61,7 +52,7 @@ fn modules(case: &Case) -> Vec<(Module, bool)> {
 
 /// In both directions, by the fewest cores that the module's memory allows; and 0 for whatever is no task of the chain.
 fn check_fewest_cores(case: &Case, tally: &mut Tally) {
-    let (chain, seed) = (chain_of(case), case.seed);
+    let (chain, seed) = (case.chain(), case.seed);
     for (module, is_within) in modules(case) {
         let needs_at_most_all = reach::fits_board(&chain, module);
         assert_eq!(is_within, needs_at_most_all, "seed {seed}, {module:?}");
@@ -75,10 +66,10 @@ fn check_fewest_cores(case: &Case, tally: &mut Tally) {
 #[test]
 fn fewest_cores_of_small_files() {
     let mut tally = Tally::default();
-    small_files(1_000).for_each(|case| check_fewest_cores(&case, &mut tally));
+    cases::small_of_each(1_000).for_each(|case| check_fewest_cores(&case, &mut tally));
     tally.print("modules of small files");
     tally.assert_at_least("within", 40_000);
-    tally.assert_at_least("beyond", 1_600);
+    tally.assert_at_least("beyond", 2_400);
 }
 
 #[test]
@@ -90,19 +81,10 @@ fn fewest_cores_of_large_files() {
     tally.assert_at_least("beyond", 800);
 }
 
-/// The library's Judge on a plan that has the module, in one copy of so many cores, among modules of a task each. These have the
-/// most cores that a byte can say, whose memory holds any task of these files.
+/// The library's Judge on a plan that has the module, in one copy of so many cores, among modules of a task each.
 fn judged(case: &Case, module: Module, cores: usize) -> Answer {
-    let single = |task| Module {
-        cores: 255,
-        ..reach::of_one_core(task, task)
-    };
-    let tasks = case.costs[3].into();
-    let before = (1..module.first).map(single);
-    let after = (module.last + 1..=tasks).map(single);
-    let modules = before.chain([Module { cores, ..module }]).chain(after);
-    let plan: Vec<Module> = modules.collect();
-    (LIBRARY.judge)(&case.costs, &plan::encode(&plan))
+    let module = Module { cores, ..module };
+    round::memory::judged_among_single_tasks(LIBRARY.judge, &case.costs, module)
 }
 
 /// In both directions, by refusal 14. Beyond its reach a module is refused with it, at its place, at each of these counts of
@@ -139,9 +121,9 @@ fn assert_judged(tally: &Tally, [figures, cores, limit, memory]: [usize; 4]) {
 fn judged_modules_of_small_files() {
     let mut tally = Tally::default();
     let every: Vec<usize> = (1..=MOST_CORES).collect();
-    small_files(1_000).for_each(|case| check_judge(&case, &every, &mut tally));
+    cases::small_of_each(1_000).for_each(|case| check_judge(&case, &every, &mut tally));
     tally.print("modules of small files, judged");
-    assert_judged(&tally, [4_000, 25_000, 10_000, 1_600]);
+    assert_judged(&tally, [4_000, 25_000, 10_000, 2_400]);
 }
 
 #[test]
@@ -153,43 +135,43 @@ fn judged_modules_of_large_files() {
     assert_judged(&tally, [5, 1_000, 200, 800]);
 }
 
-/// Whether some plan keeps the rules.
-fn has_plan(case: &Case) -> bool {
-    let (mut plan, mut work) = ([0; PLAN_BYTES], vec![0; WORK_WORDS]);
-    (QUICK_REFERENCE.best_plan)(&case.costs, &mut plan, &mut work).refusal == 0
-}
-
 /// Counts where the reaches of files end that are made for it, and whether these have plans.
 fn count_ends(files: impl Iterator<Item = Case>) -> Tally {
     let mut tally = Tally::default();
     for case in files.filter(|case| case.kind == Kind::Reaches) {
-        round::reaches::count(&chain_of(&case), &reaches(&case), &mut tally);
-        tally.add(if has_plan(&case) { "a plan" } else { "no plan" });
+        round::reaches::count(&case.chain(), &reaches(&case), &mut tally);
+        tally.add(if QUICK_REFERENCE.has_plan(&case.costs) {
+            "a plan"
+        } else {
+            "no plan"
+        });
     }
     tally
 }
 
 #[test]
 fn reaches_end_everywhere_in_small_files() {
-    let tally = count_ends(small_files(1_000));
+    let tally = count_ends(cases::small_of_each(1_000));
     tally.print("where reaches end in small files");
     for (what, least) in [
         ("a plan", 180),
-        ("no plan", 320),
-        ("reach: 0", 190),
-        ("reach: the first task itself", 240),
+        ("no plan", 340),
+        ("reach: 0", 230),
+        ("reach: the first task itself", 250),
         ("reach: in the middle", 70),
         ("reach: one short of k", 130),
         ("reach: k", 850),
-        ("reach: 0 after a positive one", 90),
+        ("reach: 0 after a positive one", 100),
         ("reach: that of the task before", 560),
         ("reach: all of the board", 500),
-        ("reach: a KiB short for the next task", 330),
-        ("reach: begins with a need of 0", 100),
-        ("reach: ends with a need of 0", 110),
-        ("reach: needs of 0 only", 200),
+        ("reach: a KiB short for the next task", 460),
+        ("reach: shorter than by needs added up", 75),
+        ("reach: with the next task it fits at no count", 24),
+        ("reach: begins with a need of 0", 120),
+        ("reach: ends with a need of 0", 120),
+        ("reach: needs of 0 only", 260),
         ("reach: over a limit", 35),
-        ("reach: not replicable", 100),
+        ("reach: not replicable", 140),
     ] {
         tally.assert_at_least(what, least);
     }
@@ -200,13 +182,14 @@ fn reaches_end_everywhere_in_large_files() {
     let tally = count_ends(large_files());
     tally.print("where reaches end with 12 tasks on 32 cores");
     for (what, least) in [
-        ("a plan", 1),
+        ("a plan", 4),
         ("no plan", 20),
         ("reach: 0", 25),
         ("reach: the first task itself", 47),
         ("reach: in the middle", 60),
-        ("reach: one short of k", 8),
+        ("reach: one short of k", 18),
         ("reach: k", 100),
+        ("reach: shorter than by needs added up", 18),
     ] {
         tally.assert_at_least(what, least);
     }

@@ -36,19 +36,21 @@ fn library_answers_as_the_reference() {
 /// Where the reaches are to end, each at least so often.
 fn assert_reaches_met(tally: &Tally) {
     for (what, least) in [
-        ("reach: 0", 1_100),
-        ("reach: the first task itself", 1_400),
-        ("reach: in the middle", 300),
-        ("reach: one short of k", 1_700),
-        ("reach: k", 65_000),
-        ("reach: 0 after a positive one", 350),
-        ("reach: that of the task before", 45_000),
-        ("reach: all of the board", 2_600),
-        ("reach: a KiB short for the next task", 2_600),
-        ("reach: begins with a need of 0", 440),
-        ("reach: ends with a need of 0", 450),
-        ("reach: needs of 0 only", 24_000),
-        ("reach: over a limit", 3_600),
+        ("reach: 0", 1_400),
+        ("reach: the first task itself", 1_900),
+        ("reach: in the middle", 550),
+        ("reach: one short of k", 2_400),
+        ("reach: k", 70_000),
+        ("reach: 0 after a positive one", 450),
+        ("reach: that of the task before", 47_000),
+        ("reach: all of the board", 5_500),
+        ("reach: a KiB short for the next task", 4_500),
+        ("reach: shorter than by needs added up", 2_100),
+        ("reach: with the next task it fits at no count", 850),
+        ("reach: begins with a need of 0", 650),
+        ("reach: ends with a need of 0", 700),
+        ("reach: needs of 0 only", 25_000),
+        ("reach: over a limit", 3_700),
         ("reach: not replicable", 18_000),
     ] {
         tally.assert_at_least(what, least);
@@ -69,11 +71,20 @@ fn assert_all_met(tally: &Tally) {
         ("greedy plan: slowest is not the first module", 5_000),
         ("greedy plan: refusal 10", 10_000),
         ("greedy plan: refusal 11", 5_000),
+        ("greedy plan: refusal 11, not by needs added up", 3_000),
+        ("greedy plan: more cores at the start", 1_600),
         ("judge: figures", 5_000),
         ("judge: several copies of the slowest", 500),
         ("judge: refusal 12", 5_000),
         ("judge: refusal 13", 500),
-        ("judge: refusal 14", 5_000),
+        ("judge: refusal 14", 60_000),
+        ("judge: refusal 14, not by needs added up", 2_000),
+        (
+            "judge: refusal 14, not by needs added up, behind others",
+            400,
+        ),
+        ("judge: refusal 14, at 255 cores", 240),
+        ("judge: refusal 14, a core short", 17_000),
         ("judge: refusal 15", 5_000),
         ("judge: refusal 16", 5_000),
     ] {
@@ -121,7 +132,7 @@ fn ends_early(chain: &Chain, start: Vec<Module>) -> bool {
 #[test]
 fn limits_decide() {
     let mut tally = Tally::default();
-    let files = (0..12_000).map(cases::small);
+    let files = (0..1_000 * KINDS.len() as u64).map(cases::small);
     for case in files.filter(|case| matches!(case.kind, Kind::Limits | Kind::TightLimits)) {
         let chain = costs::read(&case.costs).expect("an accepted file");
         let unlimited = Chain {
@@ -147,7 +158,7 @@ fn limits_decide() {
                 tally.assert_at_least(&format!("{kind:?}, {service}: {what}"), least);
             }
         }
-        tally.assert_at_least(&format!("{kind:?}, greedy plan: a core left"), 500);
+        tally.assert_at_least(&format!("{kind:?}, greedy plan: a core left"), 400);
     }
 }
 

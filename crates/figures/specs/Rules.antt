@@ -19,6 +19,6 @@ unfoldable pub eachAllowed : Chain → List Module → Bool
 eachAllowed c [] = true
 eachAllowed c (m ∷ ms) = moduleRules c (m .first) (m .last) (m .copies) (m .cores) && eachAllowed c ms
 
--- the plan keeps the rules, M-100's limits among those of each module
+-- the plan keeps the rules, M-100's limits and M-103's memory among those of each module
 unfoldable pub keepsRules : Chain → List Module → Bool
 keepsRules c ms = covers (c .tasks) 1 ms && eachAllowed c ms && leb (coresOf ms) (c .board)

@@ -5,16 +5,15 @@ use mathlib.Core.Bool.{true, false}
 use mathlib.Core.List.{List, [], _∷_, List·Memᴰ, List·Memᴰ·not-nil, List·Memᴰ·cases-cons}
 use mathlib.Core.Logic.{_↔_, ⊎-elim}
 use mathlib.Core.Option.{none, some}
-use Prim.Native.Nat.{ℕ, zero, suc, _+_, _-_, _*_, _≤_, _<_}
-use native.Mathlib.Nat.{mul-le-mul-right}
+use Prim.Native.Nat.{ℕ, zero, suc, _+_, _-_, _≤_, _<_}
 use native.Mathlib.Omega.{arith}
 use lib.ListN.{length, getD}
 use borrow.Author.Tests.{le-leb, leb-true, eqb-true}
 use Rattle.records.proofs.Cases.{true-or-false, and-true}
 use Rattle.modules.specs.declared.Module.{Module}
-use Rattle.modules.specs.Model.{Chain, gather, nothing}
+use Rattle.modules.specs.Model.{Chain}
 use Rattle.modules.specs.Rules.{memoryFits, copiesAllowed, withinLimit, moduleRules, fewestCores}
-use Rattle.modules.proofs.Laws.{fewest-least}
+use Rattle.modules.proofs.Laws.{fewest-least, memory-more}
 use Rattle.figures.specs.Model.{coresOf}
 use Rattle.figures.specs.Rules.{covers, eachAllowed, keepsRules}
 use Rattle.figures.proofs.Covering.{covers-head}
@@ -34,12 +33,6 @@ use Rattle.greedy.proofs.Visiting.{later, visited-is, walk-earliest}
 module _ (c : Chain) where
   -- ---- memory
 
-  memory-more : (first last p : ℕ) → memoryFits c first last p ≡ true → memoryFits c first last (p + 1) ≡ true
-  unfolding memoryFits
-  memory-more first last p e =
-      let sum = gather (c .need) nothing first last in
-      le-leb sum ((p + 1) * c .capacity) (omega (arith, leb-true sum (p * c .capacity) e, mul-le-mul-right {m = p} {n = p + 1} (c .capacity) (omega arith)))
-
   memory-least : (first last : ℕ) → fewestCores c first last ≤ c .board → memoryFits c first last (fewestCores c first last) ≡ true
   memory-least first last h = fewest-least c first last (fewestCores c first last) h .0 refl .fits
 
@@ -56,7 +49,7 @@ module _ (c : Chain) where
   give-allowed [] i l e = e
   give-allowed (m ∷ ms) zero l e =
       let h = allowed-head c m ms e in
-      allowed-cons (record { first = m .first; last = m .last; copies = m .copies; cores = m .cores + 1 }) ms (h .0) (memory-more (m .first) (m .last) (m .cores) (h .1)) l (h .3)
+      allowed-cons (record { first = m .first; last = m .last; copies = m .copies; cores = m .cores + 1 }) ms (h .0) (memory-more c (m .first) (m .last) (m .cores) (m .cores + 1) (omega arith) (h .1)) l (h .3)
   give-allowed (m ∷ ms) (suc i) l e = let h = allowed-head c m ms e in allowed-cons m (give ms i) (h .0) (h .1) (h .2) (give-allowed ms i l (h .3))
 
   -- each has a core and is within its limit

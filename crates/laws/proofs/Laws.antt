@@ -4,24 +4,15 @@ use mathlib.Core.Path.{_≡_, refl}
 use mathlib.Core.Bool.{true}
 use mathlib.Core.List.{List}
 use mathlib.Core.Logic.{_↔_}
-use Prim.Native.Nat.{ℕ, suc, _+_, _-_, _*_, _≤_}
-use native.Mathlib.Nat.{suc-mul, div-lt-iff-lt-mul}
-use native.Mathlib.Omega.{arith}
+use Prim.Native.Nat.{ℕ, _+_, _*_}
+use Rattle.rounding.specs.Rounding.{roundedUp}
 use Rattle.records.specs.declared.Key.{Key}
-use Rattle.laws.specs.Laws.{roundedUp, lawAt}
+use Rattle.laws.specs.Laws.{lawAt}
 use Rattle.laws.specs.Form.{lawByte, coefficient, lawOf, lawMeets}
 use Rattle.laws.specs.Claims.{States}
 use Rattle.laws.proofs.Stated as stated
 
 -- ---- the laws of document 000, section 5
-
--- rounded up: the least whole number that, times y, reaches x
-pub rounded-least : (x y n : ℕ) → 1 ≤ y → (roundedUp x y ≤ n) ↔ (x ≤ n * y)
-unfolding roundedUp
-rounded-least x y n h = (
-  λ e. let l = div-lt-iff-lt-mul {k = y} {x = x + (y - 1)} {y = suc n} h .0 (omega arith) in omega (arith, l, suc-mul n y),
-  λ e. let l = div-lt-iff-lt-mul {k = y} {x = x + (y - 1)} {y = suc n} h .1 (omega (arith, suc-mul n y)) in omega (arith, l),
-)
 
 -- what record n of the laws gives, by its form: which coefficient stands where
 module _ (l : List ℕ) (n s q : ℕ) where

@@ -1,12 +1,9 @@
 -- The cost laws of document 000, section 5, in whole ticks (document 02, M-101): C1 + C2/p + C3·p for an execution and an internal
 -- transfer, C1 + C2/s + C3/q + C4·s + C5·q for an external one, or a constant. Assumes nothing.
-use Prim.Native.Nat.{ℕ, _+_, _-_, _*_, _/_}
+use Prim.Native.Nat.{ℕ, _+_, _*_}
+use Rattle.rounding.specs.Rounding.{roundedUp}
 use Rattle.laws.specs.declared.Law.{Law}
 use Rattle.laws.specs.declared.Law.the-variants.{Constant, Three, Five}
-
--- x ÷ y rounded up; 0 where y is 0
-unfoldable pub roundedUp : ℕ → ℕ → ℕ
-roundedUp x y = (x + (y - 1)) / y
 
 -- the ticks that a law gives, at s sending and q receiving cores or, of three terms, at s cores; each quotient is rounded up by itself
 unfoldable pub lawAt : Law → ℕ → ℕ → ℕ

@@ -10,7 +10,7 @@ use lib.Dec.{leb, eqb}
 use borrow.Author.Tests.{le-leb, eq-eqb, leb-true, eqb-true}
 use Rattle.records.proofs.Cases.{lt-or-le, and-true, or-unless, or-right}
 use Rattle.modules.specs.Model.{Chain, run, gather, nothing, body, transfer, response}
-use Rattle.modules.specs.Rules.{memoryFits, mark, copiesAllowed, withinLimit, moduleRules}
+use Rattle.modules.specs.Rules.{share, shares, memoryFits, mark, copiesAllowed, withinLimit, moduleRules}
 use Rattle.modules.proofs.Limiting.{limit-drop}
 use Rattle.modules.proofs.Sums.{gather-some, gather-none}
 
@@ -66,6 +66,14 @@ run-close f g f′ g′ d a b (suc n) t =
     let e : 2 * suc n + 1 ≡ suc (suc (2 * n + 1)) = omega arith in
     rw e (omega (arith, a t, b t, run-close f g f′ g′ d a b n (t + 1), suc-mul (suc (2 * n + 1)) d, suc-mul (2 * n + 1) d))
 
+-- a function that is at most another at each task has at most its sum
+pub gather-less : (f f′ : ℕ → ℕ) → ((t : ℕ) → f t ≤ f′ t) → (first last : ℕ) → gather f nothing first last ≤ gather f′ nothing first last
+gather-less f f′ a first last = ⊎-elim
+    (λ l. rw (gather-none f nothing first last l) (omega arith))
+    (λ l. rw (gather-some f nothing first last l, gather-some f′ nothing first last l)
+    (omega (arith, run-close f nothing f′ nothing 0 (λ t. omega (arith, a t)) (λ t. omega arith) (last - first) first)))
+    (lt-or-le last first)
+
 -- the numbering of tasks can be shifted
 pub run-shift : (f g f′ g′ : ℕ → ℕ) (d : ℕ) → ((t : ℕ) → f (t + d) ≡ f′ t) → ((t : ℕ) → g (t + d) ≡ g′ t) → (n t : ℕ) → run f g (t + d) n ≡ run f′ g′ t n
 unfolding run
@@ -78,9 +86,11 @@ run-shift f g f′ g′ d a b (suc n) t =
 
 module _ (c : Chain) (first last from to : ℕ) (h : first ≤ from) (i : to ≤ last) where
   pub memory-drop : (p : ℕ) → memoryFits c first last p ≡ true → memoryFits c from to p ≡ true
-  unfolding memoryFits
-  memory-drop p e = le-leb (gather (c .need) nothing from to) (p * c .capacity)
-      (omega (arith, gather-part (c .need) nothing first last from to h i, leb-true (gather (c .need) nothing first last) (p * c .capacity) e))
+  unfolding memoryFits shares
+  memory-drop p e =
+      let t = and-true (leb 1 p) (leb (shares c first last p) (c .capacity)) e in
+      let less : shares c from to p ≤ c .capacity = omega (arith, gather-part (λ t. share c t p) nothing first last from to h i, leb-true (shares c first last p) (c .capacity) (t .1)) in
+      simp (t .0, le-leb (shares c from to p) (c .capacity) less)
 
   pub copies-drop : (r : ℕ) → copiesAllowed c first last r ≡ true → copiesAllowed c from to r ≡ true
   unfolding copiesAllowed

@@ -1,22 +1,23 @@
--- What holds of modules (document 01, "The chain and the board"; document 02, M-100 and M-102): the laws that a reader looks for, and
+-- What holds of modules (document 01, "The chain and the board"; document 02, M-100, M-102 and M-103): the laws that a reader looks for, and
 -- that the layers above cite. The definitions are in specs/. Assumes nothing.
 use mathlib.Core.Path.{_≡_}
 use mathlib.Core.Bool.{true, false, _&&_}
 use mathlib.Core.List.{List}
 use mathlib.Core.Logic.{_↔_}
-use Prim.Native.Nat.{ℕ, _+_, _-_, _≤_, _<_}
+use Prim.Native.Nat.{ℕ, _+_, _-_, _*_, _≤_, _<_}
 use Rattle.records.specs.declared.Board.{Board}
 use Rattle.records.specs.declared.Filled.{Filled}
 use Rattle.records.specs.Format.{IsCosts}
 use Rattle.modules.specs.Model.{Chain, chainOf, response}
-use Rattle.modules.specs.Rules.{memoryFits, copiesAllowed, moduleLimit, withinLimit, moduleRules, stillKept, fewestCores}
+use Rattle.modules.specs.Rules.{share, shares, memoryFits, copiesAllowed, moduleLimit, withinLimit, moduleRules, stillKept, fewestCores}
 use Rattle.modules.specs.Reach.{reach, reachAnswer}
-use Rattle.modules.specs.Claims.{IsFewest, IsLimit, IsReach, NoReach, SomeHold, Reaches}
+use Rattle.modules.specs.Claims.{needing, IsFewest, IsLimit, IsReach, NoReach, SomeHold, Reaches}
 use Rattle.modules.proofs.Amounts as amounts
 use Rattle.modules.proofs.Fewest as fewest
 use Rattle.modules.proofs.Lengthening as lengthening
 use Rattle.modules.proofs.Limiting as limiting
 use Rattle.modules.proofs.Longest as longest
+use Rattle.modules.proofs.Sharing as sharing
 
 -- ---- dropping tasks at either end of a module never makes its memory, its limit, its rules or its response worse
 
@@ -35,6 +36,33 @@ module _ (c : Chain) (first last : ℕ) where
 
   pub response-drop-first : (s from r p q : ℕ) → first ≤ from → response c 0 from last r p q ≤ response c s first last r p q
   response-drop-first s from r p q h = amounts.response-drop-first c s first last from r p q h
+
+-- ---- M-103: memory is split task by task
+
+module _ (c : Chain) where
+  -- "need ÷ p rounded up" is the least whole number that, p times over, is the need or more
+  pub share-least : (t p n : ℕ) → 1 ≤ p → (share c t p ≤ n) ↔ (c .need t ≤ n * p)
+  share-least = sharing.share-least c
+
+module _ (c : Chain) (first last : ℕ) where
+  -- a module fits if its shares "add to at most the capacity", and only then; on no cores none does
+  pub memory-exactly : (p : ℕ) → (memoryFits c first last p ≡ true) ↔ ((1 ≤ p) × (shares c first last p ≤ c .capacity))
+  memory-exactly = sharing.memory-exactly c first last
+
+  -- more cores never make a module that fits unfit
+  pub memory-more : (p q : ℕ) → p ≤ q → memoryFits c first last p ≡ true → memoryFits c first last q ≡ true
+  memory-more = sharing.memory-more c first last
+
+  -- "some modules now fit at no count of cores": exactly those that have more tasks with a need than a core has KiB, where needs are bounded
+  pub memory-never : (most : ℕ) → ((t : ℕ) → c .need t ≤ most) → ((p : ℕ) → memoryFits c first last p ≡ false) ↔ (c .capacity < needing c first last)
+  memory-never = sharing.memory-never c first last
+
+  -- the shares of no tasks, and with one task more
+  pub shares-none : (p : ℕ) → last < first → shares c first last p ≡ 0
+  shares-none = sharing.shares-none c first last
+
+  pub shares-more : (p : ℕ) → 1 ≤ first → first ≤ last → shares c first last p ≡ shares c first (last - 1) p + share c last p
+  shares-more = sharing.shares-more c first last
 
 -- ---- M-100: a module's limit is the least of its tasks' limits, those without one left aside
 
@@ -65,11 +93,16 @@ module _ (c : Chain) (first last : ℕ) where
   pub rules-apart : (r p : ℕ) → moduleRules c first last r p ≡ (copiesAllowed c first last r && moduleRules c first last 1 p)
   rules-apart = lengthening.rules-apart c first last
 
-  -- without tasks it breaks no rule, and with one more only `stillKept` is left to ask
-  pub rules-none : (p : ℕ) → last < first → moduleRules c first last 1 p ≡ true
+  -- what keeps the rules has its shares within the capacity
+  pub rules-shares : (r p : ℕ) → moduleRules c first last r p ≡ true → shares c first last p ≤ c .capacity
+  rules-shares = lengthening.rules-shares c first last
+
+  -- without tasks it breaks no rule on one core or more, and with one more only `stillKept` is left to ask
+  pub rules-none : (p : ℕ) → 1 ≤ p → last < first → moduleRules c first last 1 p ≡ true
   rules-none = lengthening.rules-none c first last
 
-  pub rules-longer : (p : ℕ) → first ≤ last → moduleRules c first (last - 1) 1 p ≡ true → stillKept c first last p ≡ moduleRules c first last 1 p
+  pub rules-longer : (p : ℕ) → first ≤ last → moduleRules c first (last - 1) 1 p ≡ true
+      → stillKept c last p (shares c first last p) ≡ moduleRules c first last 1 p
   rules-longer = lengthening.rules-longer c first last
 
 -- ---- the fewest cores that a module's memory allows: the least of the board's 1 .. P that do, and P + 1 where none do

@@ -2,14 +2,15 @@
 -- are left to ask for. Assumes nothing.
 use mathlib.Core.Path.{_≡_}
 use mathlib.Core.Bool.{true, _&&_, and-assoc}
-use Prim.Native.Nat.{ℕ, _-_, _*_, _≤_, _<_}
+use Prim.Native.Nat.{ℕ, _-_, _≤_, _<_}
 use native.Mathlib.Omega.{arith}
-use borrow.Author.Tests.{le-leb}
+use lib.Dec.{leb}
+use borrow.Author.Tests.{le-leb, leb-true}
 use Rattle.records.proofs.Cases.{same-test, and-true}
-use Rattle.modules.specs.Model.{Chain, nothing}
-use Rattle.modules.specs.Rules.{memoryFits, copiesAllowed, allows, withinLimit, moduleRules, stillKept}
+use Rattle.modules.specs.Model.{Chain}
+use Rattle.modules.specs.Rules.{shares, memoryFits, copiesAllowed, allows, withinLimit, moduleRules, stillKept}
 use Rattle.modules.proofs.Limiting.{within-none, within-more, within-task}
-use Rattle.modules.proofs.Sums.{gather-none}
+use Rattle.modules.proofs.Sharing.{shares-none, memory-exactly}
 
 module _ (c : Chain) (first last : ℕ) where
   -- the copies are a rule of their own: all else one copy has to keep too
@@ -17,14 +18,31 @@ module _ (c : Chain) (first last : ℕ) where
   unfolding moduleRules copiesAllowed
   rules-apart r p = and-assoc (copiesAllowed c first last r) (memoryFits c first last p) (withinLimit c first last p)
 
-  pub rules-none : (p : ℕ) → last < first → moduleRules c first last 1 p ≡ true
-  unfolding moduleRules copiesAllowed memoryFits
-  rules-none p h = simp (gather-none (c .need) nothing first last h, le-leb 0 (p * c .capacity) (omega arith), within-none c last p first h)
+  -- what keeps the rules has its shares within the capacity
+  pub rules-shares : (r p : ℕ) → moduleRules c first last r p ≡ true → shares c first last p ≤ c .capacity
+  unfolding moduleRules
+  rules-shares r p e =
+      let t = and-true _ (withinLimit c first last p) e in
+      memory-exactly c first last p .0 (and-true (copiesAllowed c first last r) (memoryFits c first last p) (t .0) .1) .1
 
-  pub rules-longer : (p : ℕ) → first ≤ last → moduleRules c first (last - 1) 1 p ≡ true → stillKept c first last p ≡ moduleRules c first last 1 p
+  pub rules-none : (p : ℕ) → 1 ≤ p → last < first → moduleRules c first last 1 p ≡ true
+  unfolding moduleRules copiesAllowed
+  rules-none p i h =
+      let fits = memory-exactly c first last p .1 (i, omega (arith, shares-none c first last p h)) in
+      simp (fits, within-none c last p first h)
+
+  pub rules-longer : (p : ℕ) → first ≤ last → moduleRules c first (last - 1) 1 p ≡ true
+      → stillKept c last p (shares c first last p) ≡ moduleRules c first last 1 p
   unfolding moduleRules copiesAllowed stillKept
   rules-longer p h e =
       let before = and-true (memoryFits c first (last - 1) p) (withinLimit c first (last - 1) p) e in
+      let some = memory-exactly c first (last - 1) p .0 (before .0) .0 in
       same-test _ _
-      (λ t. let u = and-true (allows (c .limit last) p) (memoryFits c first last p) t in simp (u .1, within-more c last p first (before .1) (u .0)))
-      (λ t. let u = and-true (memoryFits c first last p) (withinLimit c first last p) t in simp (u .0, within-task c last p first h (u .1)))
+      (λ t.
+      let u = and-true (allows (c .limit last) p) (leb (shares c first last p) (c .capacity)) t in
+      let fits = memory-exactly c first last p .1 (some, leb-true (shares c first last p) (c .capacity) (u .1)) in
+      simp (fits, within-more c last p first (before .1) (u .0)))
+      (λ t.
+      let u = and-true (memoryFits c first last p) (withinLimit c first last p) t in
+      let fits = memory-exactly c first last p .0 (u .0) .1 in
+      simp (le-leb (shares c first last p) (c .capacity) fits, within-task c last p first h (u .1)))

@@ -6,4 +6,5 @@ pub mod Left
 pub mod Lengthening
 pub mod Limiting
 pub mod Longest
+pub mod Sharing
 pub mod Sums

@@ -1,15 +1,17 @@
 -- The documents' words on a module as direct statements, beside the definitions that run: what "the fewest cores that its memory
--- allows" are (document 01, Bench way), a module's limit (document 02, M-100) and a task's reach (M-102). Assumes nothing.
+-- allows" are (document 01, Bench way), a module's limit (document 02, M-100), a task's reach (M-102) and how many of its tasks need memory
+-- (M-103). Assumes nothing.
 use mathlib.Core.Path.{_≡_}
-use mathlib.Core.Bool.{true, false}
+use mathlib.Core.Bool.{true, false, cond}
 use mathlib.Core.List.{List}
+use lib.Dec.{eqb}
 use Prim.Native.Nat.{ℕ, _≤_, _<_}
 use Rattle.records.specs.declared.Board.{Board}
 use Rattle.records.specs.declared.Reading.{Reading}
 use Rattle.records.specs.declared.Filled.{Filled}
 use Rattle.records.specs.Format.{IsCosts, Finds}
 use Rattle.records.specs.Filled.{filledIn, unfilled}
-use Rattle.modules.specs.Model.{Chain, chainOf}
+use Rattle.modules.specs.Model.{Chain, chainOf, gather, nothing}
 use Rattle.modules.specs.Rules.{memoryFits, fewestCores}
 use Rattle.modules.specs.Reach.{reach}
 
@@ -53,3 +55,12 @@ pub record SomeHold (c : Chain) (first last : ℕ) : Type 0 where
 pub data Reaches (s : List ℕ) (first : ℕ) : Filled → Type 0 where
   reached : (b : Board) → IsCosts s b → Reaches s first (filledIn (reach (chainOf s b) first))
   costs-wrong : (r : Reading) → Finds s r → (r .number ≡ 0 → ⊥) → Reaches s first (unfilled (r .number) (r .place))
+
+-- ---- M-103: modules that fit at no count of cores
+
+-- 1 for a task that needs memory, and how many of a module's tasks do
+abbrev pub needy : Chain → ℕ → ℕ
+needy c t = cond (eqb (c .need t) 0) 0 1
+
+abbrev pub needing : Chain → (first last : ℕ) → ℕ
+needing c first last = gather (needy c) nothing first last

@@ -1,12 +1,25 @@
--- The rules of a module (document 01, "The chain and the board"; document 02, M-100). Assumes nothing.
-use Prim.Native.Nat.{ℕ, zero, suc, _+_, _-_, _*_}
+-- The rules of a module (document 01, "The chain and the board"; document 02, M-100 and M-103). Assumes nothing.
+use Prim.Native.Nat.{ℕ, zero, suc, _+_, _-_}
 use mathlib.Core.Bool.{Bool, cond, _&&_, _||_}
 use lib.Dec.{ltb, leb, eqb}
+use Rattle.rounding.specs.Rounding.{roundedUp}
 use Rattle.modules.specs.Model.{Chain, gather, nothing}
 
--- the needs of the module's tasks, added up, are at most p × the capacity of one core
+-- ---- M-103: memory is split task by task
+
+-- a task's share of the memory of each of p cores: its need ÷ p, rounded up
+unfoldable pub share : Chain → (t p : ℕ) → ℕ
+share c t p = roundedUp (c .need t) p
+
+-- the shares of the module's tasks, added up
+unfoldable pub shares : Chain → (first last p : ℕ) → ℕ
+shares c first last p = gather (λ t. share c t p) nothing first last
+
+-- a module's memory fits on p cores: the shares add to at most the capacity of one; on no cores nothing fits
 unfoldable pub memoryFits : Chain → (first last p : ℕ) → Bool
-memoryFits c first last p = leb (gather (c .need) nothing first last) (p * c .capacity)
+memoryFits c first last p = leb 1 p && leb (shares c first last p) (c .capacity)
+
+-- ---- copies
 
 -- 1 for a task that is not replicable
 abbrev pub mark : Chain → ℕ → ℕ
@@ -45,9 +58,10 @@ withinLimit c first last p = allows (moduleLimit c first last) p
 unfoldable pub moduleRules : Chain → (first last r p : ℕ) → Bool
 moduleRules c first last r p = copiesAllowed c first last r && memoryFits c first last p && withinLimit c first last p
 
--- what is left to ask of a module of one copy that kept the rules without its last task: its memory, and that task's limit
-unfoldable pub stillKept : Chain → (first last p : ℕ) → Bool
-stillKept c first last p = allows (c .limit last) p && memoryFits c first last p
+-- what is left to ask of a module of one copy that kept the rules without its last task: that task's limit, and that sum, the module's
+-- shares with that task's, is at most the capacity
+unfoldable pub stillKept : Chain → (last p sum : ℕ) → Bool
+stillKept c last p sum = allows (c .limit last) p && leb sum (c .capacity)
 
 -- ---- fewest cores
 
@@ -58,6 +72,7 @@ fewestFrom c first last p (suc n) =
     let rest = fewestFrom c first last (p + 1) n in
     cond (memoryFits c first last (p + 1)) (p + 1) rest
 
--- the fewest cores that the module's memory allows, tried from 1 up to P; P + 1 where none do
+-- the fewest cores that the module's memory allows, tried from 1 up to P; P + 1 where none do, since by M-103 "each such module counts
+-- as needing more than P"
 unfoldable pub fewestCores : Chain → (first last : ℕ) → ℕ
 fewestCores c first last = fewestFrom c first last 0 (c .board)

@@ -3,9 +3,10 @@
 ghost use mathlib.Core.Path.{_≡_};
 ghost use Prim.Native.Nat.{_<_};
 ghost use Rattle.modules.specs.Model.{chainOf, gather, nothing, body as bodyOf, transfer as transferOf, response as responseTo};
-ghost use Rattle.modules.specs.Rules.{mark};
+ghost use Rattle.modules.specs.Rules.{mark, share as shareOf, shares as sharesOf};
 use crate::Module;
 use records::Board;
+use rounding::rounded_up;
 
 // The execution of each task at p cores and the internal transfer at p between each two, in ticks.
 pub fn body(costs: &[u8], board: Board, first: u8, last: u8, p: u8) -> u64
@@ -24,9 +25,17 @@ pub fn body(costs: &[u8], board: Board, first: u8, last: u8, p: u8) -> u64
     sum + (held::execution(costs, board, last, p) as u64)
 }
 
-// The memory needs of the tasks, in KiB.
-pub(crate) fn needs(costs: &[u8], board: Board, first: u8, last: u8) -> u64
-    ensures { λ r. ⌜ r ≡ gather (chainOf (now (costs .entry)) board .need) nothing first last ⌝ }
+// A task's share of the memory of each of p cores (document 02, M-103), in KiB; 0 on no cores.
+pub fn share(costs: &[u8], board: Board, t: u8, p: u8) -> u64
+    ensures { λ r. ⌜ (r ≡ shareOf (chainOf (now (costs .entry)) board) t p) × (r < 4294967296) ⌝ }
+{
+    let need = held::need(costs, board, t);
+    rounded_up(need, p)
+}
+
+// The tasks' shares, added up.
+pub(crate) fn shares(costs: &[u8], board: Board, first: u8, last: u8, p: u8) -> u64
+    ensures { λ r. ⌜ r ≡ sharesOf (chainOf (now (costs .entry)) board) first last p ⌝ }
 {
     if last < first {
         return 0;
@@ -34,10 +43,10 @@ pub(crate) fn needs(costs: &[u8], board: Board, first: u8, last: u8) -> u64
     let mut sum: u64 = 0;
     let mut t = first;
     while t < last {
-        sum += held::need(costs, board, t) as u64;
+        sum += share(costs, board, t, p);
         t += 1;
     }
-    sum + (held::need(costs, board, last) as u64)
+    sum + share(costs, board, last, p)
 }
 
 // 1 for a task that is not replicable, else 0.

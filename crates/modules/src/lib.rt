@@ -1,4 +1,4 @@
-// A module of a plan (document 01, "The chain and the board"; document 02, M-100 and M-102; source document 000, 2.1 and 2.2): what it
+// A module of a plan (document 01, "The chain and the board"; document 02, M-100, M-102 and M-103; source document 000, 2.1 and 2.2): what it
 // costs, which rules it keeps and how far it can go.
 //
 // Whatever lies above takes every cost and test of a module from here. No public function has a `requires`: each answers for all
@@ -9,6 +9,7 @@ mod rules;
 
 pub use cost::body;
 pub use cost::response_of;
+pub use cost::share;
 pub use cost::transfer;
 pub use reaching::reach;
 pub use reaching::read_reach;

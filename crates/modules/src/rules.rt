@@ -3,15 +3,18 @@ ghost use mathlib.Core.Path.{_≡_};
 ghost use Rattle.modules.specs.Model.{chainOf};
 ghost use Rattle.modules.specs.Rules.{copiesAllowed, memoryFits, allows, withinLimit, moduleRules, stillKept, fewestCores};
 use crate::cost::marks;
-use crate::cost::needs;
+use crate::cost::shares;
 use records::Board;
 
-// Whether the tasks' needs, added up, are at most p times the capacity of a core.
+// Whether the tasks' shares of each of p cores (document 02, M-103) add to at most the capacity of one; on no cores nothing fits.
 pub fn memory_fits(costs: &[u8], board: Board, first: u8, last: u8, p: u8) -> bool
     ensures { λ r. ⌜ r ≡ memoryFits (chainOf (now (costs .entry)) board) first last p ⌝ }
 {
-    let room = (p as u64) * (board.capacity as u64);
-    needs(costs, board, first, last) <= room
+    if p < 1 {
+        return false;
+    }
+    let room = board.capacity as u64;
+    shares(costs, board, first, last, p) <= room
 }
 
 // Whether the module may have r copies.
@@ -65,12 +68,13 @@ pub fn rules_met(costs: &[u8], board: Board, first: u8, last: u8, r: u8, p: u8) 
     within_limit(costs, board, first, last, p)
 }
 
-// What is left to ask of a module of one copy that kept the rules without its last task: that task's limit, and its memory.
-pub fn still_kept(costs: &[u8], board: Board, first: u8, last: u8, p: u8) -> bool
-    ensures { λ x. ⌜ x ≡ stillKept (chainOf (now (costs .entry)) board) first last p ⌝ }
+// What is left to ask of a module of one copy that kept the rules without its last task: that task's limit, and that sum, the module's
+// shares with that task's, is at most the capacity.
+pub fn still_kept(costs: &[u8], board: Board, last: u8, p: u8, sum: u64) -> bool
+    ensures { λ x. ⌜ x ≡ stillKept (chainOf (now (costs .entry)) board) last p sum ⌝ }
 {
     if task_allows(costs, board, last, p) {
-        memory_fits(costs, board, first, last, p)
+        sum <= (board.capacity as u64)
     } else {
         false
     }

@@ -35,7 +35,8 @@ fn fewest_copies(rep: bool, one: u64, more: u64, n: u64) -> u64
     }
     if rep {
         if 1 <= n {
-            return (more + n - 1) / n;
+            let rest = n - 1;
+            return (more + rest) / n;
         }
     }
     0
@@ -121,16 +122,19 @@ fn over_next(costs: &[u8], board: Board, work: &[u32], n: u64, s: u8, t: u8, q: 
 }
 
 // And over its last task, up to its reach (document 02, M-102) or the first that its memory or its limit does not allow: one cell of
-// the table.
+// the table. The shares of its memory (M-103) are added up as it grows, one division for each task.
 fn over_last(costs: &[u8], board: Board, end: u8, work: &[u32], n: u64, s: u8, t: u8, q: u8) -> u32
     requires { ⌜ Holds board (now work) × Placed board n s t q × (end ≡ reach (chainOf (now costs) board) (t + 1)) ⌝ }
     ensures { λ r. ⌜ (r ≡ overLast (problem (chainOf (now (costs .entry)) board)) (fitsAt (problem (chainOf (now (costs .entry)) board)) n)
         (readTable (problem (chainOf (now (costs .entry)) board)) (now (work .entry))) s t q) × (r ≤ board .cores + 1) ⌝ }
 {
     let mut m = (board.cores as u32) + 1;
+    let mut sum: u64 = 0;
     let mut l = t + 1;
     while l <= end {
-        if !modules::still_kept(costs, board, t + 1, l, q) {
+        let added = modules::share(costs, board, l, q);
+        sum += added;
+        if !modules::still_kept(costs, board, l, q, sum) {
             return m;
         }
         let v = over_next(costs, board, work, n, s, t, q, l);

@@ -6,6 +6,7 @@ use native.Mathlib.Numerals.{add-one}
 use mathlib.Core.Path.{_≡_}
 use mathlib.Core.Logic.{inl, inr}
 use mathlib.Core.List.{List}
+use Rattle.rounding.proofs.Laws.{rounded-least, rounded-reaches}
 use Rattle.records.proofs.Cases.{lt-or-le}
 use Rattle.modules.specs.declared.Module.{Module}
 use Rattle.search.specs.Plan.{Problem, cap}
@@ -13,7 +14,6 @@ use Rattle.search.specs.Fraction.{Under}
 use Rattle.search.specs.Bottleneck.{planBottleneck, Keeps}
 use Rattle.search.specs.Best.{light, plan, Feasible, Bottom, Laws}
 use Rattle.search.specs.Loops.{thresholdOf, Bracket}
-use Rattle.search.proofs.Copies.{ceil-enough, ceil-least}
 use Rattle.search.proofs.Bottleneck.{bottleneck-in, den-pos}
 use Rattle.search.proofs.Best.{plan-keeps, plan-within, feasible-by, feasible-more}
 
@@ -52,12 +52,12 @@ module _ (X : Problem) where
     pub threshold-feasible : (ms : List Module) → Keeps X ms → Feasible X (thresholdOf X ms)
     threshold-feasible ms h =
         let b = planBottleneck X ms in
-        feasible-by X L (thresholdOf X ms) ms h (ceil-enough (b .num * X .grain) (b .den) (den-pos X 0 0 ms (h .0)))
+        feasible-by X L (thresholdOf X ms) ms h (rounded-reaches (b .num * X .grain) (b .den) (den-pos X 0 0 ms (h .0)))
 
     pub threshold-le : (n : ℕ) (ms : List Module) → Keeps X ms → Under (X .grain) n (planBottleneck X ms) → thresholdOf X ms ≤ n
     threshold-le n ms h u =
         let b = planBottleneck X ms in
-        ceil-least (b .num * X .grain) (b .den) n (den-pos X 0 0 ms (h .0)) u
+        rounded-least (b .num * X .grain) (b .den) n (den-pos X 0 0 ms (h .0)) .1 u
 
     pub bracket-plan : (lo hi : ℕ) (ms : List Module) → Bracket X lo hi → Keeps X ms → Bracket X lo (thresholdOf X ms)
     bracket-plan lo hi ms b h = bracket-down lo hi _ b (threshold-feasible ms h)

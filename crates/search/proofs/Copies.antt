@@ -1,34 +1,20 @@
 -- The fewest copies by one division: they are enough, and no fewer are. By cases on the load of one copy, with the law of a
 -- division rounded up.
-use Prim.Native.Nat.{ℕ, suc, _+_, _*_, _-_, _≤_, _<_}
+use Prim.Native.Nat.{ℕ, _+_, _*_, _≤_, _<_}
 use native.Mathlib.Omega.{arith}
-use native.Mathlib.Nat.{le-refl, mul-le-mul, le-div-iff-mul-le, mul-le-mul-right}
+use native.Mathlib.Nat.{le-refl, mul-le-mul, mul-le-mul-right}
 use mathlib.Core.Path.{_≡_, ap}
 use mathlib.Core.Bool.{Bool, _&&_, _||_}
 use mathlib.Core.Logic.{inl, inr}
 use lib.Dec.{T, leb, leb→le, le→leb, T-not, not-T}
 use lib.Arith.{lt→nleb}
+use Rattle.rounding.specs.Rounding.{roundedUp}
+use Rattle.rounding.proofs.Laws.{rounded-least, rounded-reaches}
 use Rattle.records.proofs.Cases.{lt-or-le}
 use Rattle.search.specs.Least.{pick}
-use Rattle.search.specs.Copies.{ceil, loadOf, enough, fewest}
+use Rattle.search.specs.Copies.{loadOf, enough, fewest}
 use Rattle.search.proofs.Tests.{passed, failed, test, and-l, and-r, and-i, or-e, or-l, or-r}
 use Rattle.search.proofs.Least.{pick-yes, pick-no}
-
--- ---- a / n, rounded up
-
-pub ceil-enough : (a n : ℕ) → 1 ≤ n → a ≤ ceil a n * n
-unfolding ceil
-ceil-enough a n h = elim (lt-or-le (ceil a n * n) a) [
-  | inl u ↦ absurd (omega (arith, le-div-iff-mul-le {k = n} {x = suc (ceil a n)} {y = a + n - 1} h .1 (omega arith)))
-  | inr u ↦ u
-]
-
-pub ceil-least : (a n r : ℕ) → 1 ≤ n → a ≤ r * n → ceil a n ≤ r
-unfolding ceil
-ceil-least a n r h g = elim (lt-or-le r (ceil a n)) [
-  | inl u ↦ absurd (omega (arith, le-div-iff-mul-le {k = n} {x = suc r} {y = a + n - 1} h .0 u))
-  | inr u ↦ u
-]
 
 -- ---- the fewest copies
 
@@ -38,12 +24,12 @@ module _ (rep : Bool) (a b n : ℕ) where
   unfolding fewest
   fewest-one h = pick-yes (leb a n) 1 _ (le→leb a n h)
 
-  pub fewest-more : n < a → T rep → 1 ≤ n → fewest rep a b n ≡ ceil b n
+  pub fewest-more : n < a → T rep → 1 ≤ n → fewest rep a b n ≡ roundedUp b n
   unfolding fewest
   fewest-more h t g =
       rw (
-        pick-no (leb a n) 1 (pick (rep && leb 1 n) (ceil b n) 0) (lt→nleb a n h),
-        pick-yes (rep && leb 1 n) (ceil b n) 0 (and-i rep (leb 1 n) t (le→leb 1 n g)),
+        pick-no (leb a n) 1 (pick (rep && leb 1 n) (roundedUp b n) 0) (lt→nleb a n h),
+        pick-yes (rep && leb 1 n) (roundedUp b n) 0 (and-i rep (leb 1 n) t (le→leb 1 n g)),
       )
 
   pub fewest-none : n < a → (T rep → 1 ≤ n → ⊥) → fewest rep a b n ≡ 0
@@ -51,8 +37,8 @@ module _ (rep : Bool) (a b n : ℕ) where
   fewest-none h g =
       let no-more = not-T (rep && leb 1 n) (λ t. g (and-l rep (leb 1 n) t) (leb→le 1 n (and-r rep (leb 1 n) t))) in
       rw (
-        pick-no (leb a n) 1 (pick (rep && leb 1 n) (ceil b n) 0) (lt→nleb a n h),
-        pick-no (rep && leb 1 n) (ceil b n) 0 no-more,
+        pick-no (leb a n) 1 (pick (rep && leb 1 n) (roundedUp b n) 0) (lt→nleb a n h),
+        pick-no (rep && leb 1 n) (roundedUp b n) 0 no-more,
       )
 
   enough-i : (r : ℕ) → T (rep || leb r 1) → loadOf a b r ≤ n * r → T (enough rep a b n r)
@@ -60,10 +46,10 @@ module _ (rep : Bool) (a b n : ℕ) where
 
   -- where more copies are dearer than one
   module _ (rise : a ≤ b) where
-    more-than-one : n < a → 1 ≤ n → (1 < ceil b n) × (b ≤ n * ceil b n)
+    more-than-one : n < a → 1 ≤ n → (1 < roundedUp b n) × (b ≤ n * roundedUp b n)
     more-than-one h g =
-        let e = ceil-enough b n g in (
-          elim (lt-or-le 1 (ceil b n)) [
+        let e = rounded-reaches b n g in (
+          elim (lt-or-le 1 (roundedUp b n)) [
             | inl u ↦ u
             | inr u ↦ absurd (omega (arith, mul-le-mul-right n u))
           ],
@@ -79,8 +65,8 @@ module _ (rep : Bool) (a b n : ℕ) where
             let y = and-l rep (leb 1 n) v in
             let z = leb→le 1 n (and-r rep (leb 1 n) v) in
             let m = more-than-one g z in
-            let e = pick-no (leb (ceil b n) 1) a b (lt→nleb (ceil b n) 1 (m .0)) in
-            rw (fewest-more g y z) (enough-i (ceil b n) (or-l rep (leb (ceil b n) 1) y) (rw e (m .1)))
+            let e = pick-no (leb (roundedUp b n) 1) a b (lt→nleb (roundedUp b n) 1 (m .0)) in
+            rw (fewest-more g y z) (enough-i (roundedUp b n) (or-l rep (leb (roundedUp b n) 1) y) (rw e (m .1)))
         | failed v ↦ absurd (omega (arith, fewest-none g (λ t e. T-not (rep && leb 1 n) v (and-i rep (leb 1 n) t (le→leb 1 n e)))))
       ]
     ]
@@ -103,7 +89,7 @@ module _ (rep : Bool) (a b n : ℕ) where
                   | inr x ↦ absurd (T-not (leb i 1) v x)
                 ] in
                 let m = more-than-one g z in
-                rw (fewest-more g y z) (omega arith, ceil-least b n i z (omega arith))
+                rw (fewest-more g y z) (omega arith, rounded-least b n i z .1 (omega arith))
           ]
     ]
       where
@@ -120,7 +106,7 @@ module _ (rep : Bool) (a b n : ℕ) where
       | inl g ↦ elim (test (rep && leb 1 n)) [
         | passed v ↦
             let z = leb→le 1 n (and-r rep (leb 1 n) v) in
-            rw (fewest-more g (and-l rep (leb 1 n) v) z) (omega (arith, ceil-least b n b z (omega (arith, mul-le-mul (le-refl b) z))))
+            rw (fewest-more g (and-l rep (leb 1 n) v) z) (omega (arith, rounded-least b n b z .1 (omega (arith, mul-le-mul (le-refl b) z))))
         | failed v ↦
             rw (fewest-none g (λ t e. T-not (rep && leb 1 n) v (and-i rep (leb 1 n) t (le→leb 1 n e)))) (omega arith)
       ]

@@ -1,12 +1,9 @@
 -- The fewest copies of a module that bring its load down to a threshold, by one division. Assumes nothing.
-use Prim.Native.Nat.{ℕ, _+_, _*_, _-_, _/_}
+use Prim.Native.Nat.{ℕ, _*_}
 use mathlib.Core.Bool.{Bool, _&&_, _||_}
 use lib.Dec.{leb}
+use Rattle.rounding.specs.Rounding.{roundedUp}
 use Rattle.search.specs.Least.{pick}
-
--- a / n, rounded up
-unfoldable pub ceil : (a n : ℕ) → ℕ
-ceil a n = (a + n - 1) / n
 
 -- the load of a module of r copies: a where there is one copy, b where there are more
 abbrev pub loadOf : (a b r : ℕ) → ℕ
@@ -18,4 +15,4 @@ enough rep a b n r = (rep || leb r 1) && leb (loadOf a b r) (n * r)
 
 -- the fewest copies that are enough, 0 where none are
 unfoldable pub fewest : (rep : Bool) (a b n : ℕ) → ℕ
-fewest rep a b n = pick (leb a n) 1 (pick (rep && leb 1 n) (ceil b n) 0)
+fewest rep a b n = pick (leb a n) 1 (pick (rep && leb 1 n) (roundedUp b n) 0)

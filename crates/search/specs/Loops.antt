@@ -2,8 +2,8 @@
 use Prim.Native.Nat.{ℕ, _+_, _*_, _≤_}
 use mathlib.Core.Path.{_≡_}
 use mathlib.Core.List.{List, _++_}
+use Rattle.rounding.specs.Rounding.{roundedUp}
 use Rattle.modules.specs.declared.Module.{Module}
-use Rattle.search.specs.Copies.{ceil}
 use Rattle.search.specs.Plan.{Problem, cap}
 use Rattle.search.specs.Bottleneck.{planBottleneck}
 use Rattle.search.specs.Walk.{Room, walk, Fine}
@@ -12,7 +12,7 @@ use Rattle.search.specs.Best.{fitsAt, tableAt, plan, Feasible, Bottom}
 module _ (X : Problem) where
   -- the least n for which n / grain is at least the bottleneck of a plan
   abbrev pub thresholdOf : List Module → ℕ
-  thresholdOf ms = ceil (planBottleneck X ms .num * X .grain) (planBottleneck X ms .den)
+  thresholdOf ms = roundedUp (planBottleneck X ms .num * X .grain) (planBottleneck X ms .den)
 
   -- the bisection: the least feasible threshold is in lo .. hi
   pub record Bracket (lo hi : ℕ) : Type 0 where

@@ -8,11 +8,12 @@ use lib.ListN.{length, getD, replicate, set}
 use lib.Dec.{eqb}
 use Rattle.records.specs.declared.Board.{Board}
 use Rattle.records.specs.Costs.{eachFrom, joinFrom, dueKeys, countOf, accepted, keyMeets, valueMeets, faultAt, firstFault, lengthMeets, headMeets, boardMeets, readRecords, readHead, readBoard, readCosts}
+use Rattle.rounding.specs.Rounding.{roundedUp}
 use Rattle.fields.specs.Fields.{valueAt}
 use Rattle.lookups.specs.Lookups.{within, hasNext, cellOf, needOf, replicableOf, limitOf, executionOf, internalOf, pairPlace, pairOf, externalOf}
 use Rattle.modules.specs.declared.Module.{Module}
 use Rattle.modules.specs.Model.{Chain, chainOf, run, gather, body, transfer, response}
-use Rattle.modules.specs.Rules.{memoryFits, tighter, limitFrom, moduleLimit, allows, withinLimit, fewestFrom, fewestCores}
+use Rattle.modules.specs.Rules.{share, shares, memoryFits, tighter, limitFrom, moduleLimit, allows, withinLimit, fewestFrom, fewestCores}
 use Rattle.layout.specs.Layout.{recordOf, countFrom, moduleCount, modulesFrom, modulesOf, putModule}
 use Rattle.figures.specs.Model.{responses, coresOf, slowerOf, slowestFrom, bottleneck}
 use Rattle.figures.specs.Plan.{figuresOf, responseAt}
@@ -96,12 +97,22 @@ bodies :
 unfolding valueAt within hasNext cellOf executionOf internalOf run gather body smallDock
 bodies = (refl, refl, refl, refl, refl, refl)
 
+-- M-103: task 1's share of 50, task 2's of 150, and both
+shared :
+    (map (share dock 1) few ≡ 0 ∷ 50 ∷ 25 ∷ 17 ∷ 13 ∷ 10 ∷ [])
+    × (map (share dock 2) few ≡ 0 ∷ 150 ∷ 75 ∷ 50 ∷ 38 ∷ 30 ∷ [])
+    × (map (shares dock 1 2) few ≡ 0 ∷ 200 ∷ 100 ∷ 67 ∷ 51 ∷ 40 ∷ [])
+    × (map (shares dock 2 1) few ≡ replicate 6 0)
+unfolding roundedUp valueAt within needOf run gather share shares smallDock
+shared = (refl, refl, refl, refl)
+
+-- on no cores nothing fits, not even no tasks
 memories :
     (map (memoryFits dock 1 2) few ≡ false ∷ false ∷ true ∷ true ∷ true ∷ true ∷ [])
     × (map (memoryFits dock 1 1) few ≡ false ∷ true ∷ true ∷ true ∷ true ∷ true ∷ [])
     × (map (memoryFits dock 2 2) few ≡ false ∷ false ∷ true ∷ true ∷ true ∷ true ∷ [])
-    × (map (memoryFits dock 2 1) few ≡ replicate 6 true)
-unfolding valueAt within needOf run gather memoryFits smallDock
+    × (map (memoryFits dock 2 1) few ≡ false ∷ replicate 5 true)
+unfolding roundedUp valueAt within needOf run gather share shares memoryFits smallDock
 memories = (refl, refl, refl, refl)
 
 -- M-100: the least limit of a run of tasks with limits 0, 5, 2, 0, 9, 2, those without one left aside; what it allows
@@ -135,12 +146,15 @@ fewest cores capacity =
 
 fewest-cores :
     (fewest 4 100 ≡ 2 ∷ 1 ∷ 2 ∷ 1 ∷ 1 ∷ [])
-    × (fewest 4 50 ≡ 4 ∷ 1 ∷ 3 ∷ 1 ∷ 1 ∷ [])
+    × (fewest 4 51 ≡ 4 ∷ 1 ∷ 3 ∷ 1 ∷ 1 ∷ [])
+    × (fewest 4 50 ≡ 5 ∷ 1 ∷ 3 ∷ 1 ∷ 1 ∷ [])
     × (fewest 4 49 ≡ 5 ∷ 2 ∷ 4 ∷ 1 ∷ 1 ∷ [])
+    × (fewest 5 40 ≡ 5 ∷ 2 ∷ 4 ∷ 1 ∷ 1 ∷ [])
+    × (fewest 255 1 ≡ 256 ∷ 50 ∷ 150 ∷ 1 ∷ 1 ∷ [])
     × (fewest 4 1 ≡ 5 ∷ 5 ∷ 5 ∷ 1 ∷ 1 ∷ [])
     × (fewestCores (chainOf smallDock (board 255 0)) 1 1 ≡ 256)
-unfolding valueAt within needOf run gather memoryFits fewestFrom fewestCores smallDock fewest
-fewest-cores = (refl, refl, refl, refl, refl)
+unfolding roundedUp valueAt within needOf run gather share shares memoryFits fewestFrom fewestCores smallDock fewest
+fewest-cores = (refl, refl, refl, refl, refl, refl, refl, refl)
 
 -- nothing is sent without a sender or a receiver, with cores that the board does not have, or from a task without a next one
 transfers : map (transfer dock 1 4) few ++ map (transfer dock 1 0) few ++ map (λ s. transfer dock 1 s 1) few ++ map (λ t. transfer dock t 1 1) few

@@ -1,5 +1,6 @@
--- The starred examples of document 01, "A small dock", as entries of one list. An entry has the file's bytes, what else the service
--- is given, and what document 01 says that comes of it: the answer and, where a plan is filled in, its bytes. Assumes nothing.
+-- The starred examples of document 01, "A small dock", and the figures of document 02, as entries of one list. An entry has the file's
+-- bytes, what else the service is given, and what the document says that comes of it: the answer and, where a plan is filled in, its bytes.
+-- Where M-103 gives another figure than document 01, it stands in its place. Assumes nothing.
 use Prim.Native.Nat.{ℕ}
 use mathlib.Core.Path.{_≡_}
 use mathlib.Core.List.{List, [], _∷_}
@@ -9,7 +10,7 @@ use Rattle.figures.specs.Plan.{refusal}
 use Rattle.judge.specs.Judge.{judged}
 use Rattle.greedy.specs.Greedy.{greedyAnswer, greedyBytes}
 use Rattle.planners.specs.Best.{workWords, bestAnswer, bestBytes}
-use Rattle.starred.specs.Dock.{smallDock, fixedDock, dockOf, idleDock}
+use Rattle.starred.specs.Dock.{smallDock, fixedDock, dockOf, fivesDock, idleDock}
 
 -- ---- what is lent, and what is answered
 
@@ -56,7 +57,7 @@ unfoldable pub starred : List Case
 starred =
     best smallDock (figures 1 4 1 18 2) (one 1 2 2 2)
     ∷ best fixedDock (figures 1 4 1 11 1) (one 1 2 1 4)
-    ∷ best (dockOf 50) (figures 1 4 1 11 1) (one 1 2 1 4)
+    ∷ best (dockOf 50) (figures 2 4 1 14 1) (two 1 1 1 1 2 2 1 3)
     ∷ best (dockOf 49) (refusal 9 0) lent
     ∷ best idleDock (figures 1 2 1 0 1) (one 1 2 1 2)
     ∷ bench smallDock 1 (figures 2 4 2 12 1) (two 1 1 1 2 2 2 1 2)
@@ -65,4 +66,6 @@ starred =
     ∷ judge smallDock (two 1 1 2 1 2 2 1 2) (figures 2 4 2 12 1)
     ∷ judge smallDock (two 1 1 2 1 2 2 1 3) (refusal 15 0)
     ∷ judge smallDock (one 1 2 1 1) (refusal 14 1)
+    ∷ judge fivesDock (one 1 2 1 2) (refusal 14 1)
+    ∷ judge fivesDock (one 1 2 1 3) (figures 1 3 1 14 1)
     ∷ []

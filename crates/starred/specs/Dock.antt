@@ -46,6 +46,10 @@ fixedDock = set smallDock 10 0
 unfoldable pub dockOf : ℕ → List ℕ
 dockOf capacity = set smallDock 4 capacity
 
+-- M-103: needs 5 and 5 with capacity 5
+unfoldable pub fivesDock : List ℕ
+fivesDock = set (set (dockOf 5) 12 5) 20 5
+
 -- the value of each of n records is 0, below 256 before
 unfoldable pub zeroed : ℕ → List ℕ → List ℕ
 zeroed zero s = s

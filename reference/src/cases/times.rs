@@ -19,6 +19,23 @@ pub fn set_drawn(chain: &mut Chain, kind: Kind, random: &mut Random) {
     }
 }
 
+/// The same times at all counts of cores, so that memory and copies decide; half of the time external transfers are dear, so that
+/// long modules are good.
+pub fn set_even(chain: &mut Chain, random: &mut Random) {
+    let scale = random.pick(&[3, 1_000, MOST_VALUE / 4]);
+    let dear = random.pick(&[0, 3 * scale]);
+    let cores = chain.cores;
+    for times in chain.executions.chunks_exact_mut(cores) {
+        times.fill(random.value(scale));
+    }
+    for times in chain.internals.chunks_exact_mut(cores) {
+        times.fill(random.value(scale / 3));
+    }
+    for times in chain.externals.chunks_exact_mut(cores * cores) {
+        times.fill(dear + random.value(scale));
+    }
+}
+
 fn all_times(chain: &mut Chain) -> [&mut Vec<u32>; 3] {
     let (executions, internals) = (&mut chain.executions, &mut chain.internals);
     [executions, internals, &mut chain.externals]

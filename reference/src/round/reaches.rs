@@ -1,9 +1,11 @@
 //! The reaches of a file's first tasks, compared, with a count of where they end.
 
+use super::memory;
 use crate::cases::Case;
 use crate::compare::{self, Both, Difference};
 use crate::costs::{self, Chain};
 use crate::greedy;
+use crate::plan::Module;
 use crate::random::Random;
 use crate::reach;
 use crate::tally::Tally;
@@ -77,23 +79,35 @@ fn end(tasks: usize, first: usize, reach: usize) -> &'static str {
 }
 
 /// What is particular about the longest module, or about the one that is a task longer.
-fn particulars_of_module(chain: &Chain, first: usize, reach: usize) -> [(bool, &'static str); 7] {
-    let board = chain.cores as u64 * u64::from(chain.capacity);
-    let need =
-        |last: usize| -> u64 { (first..=last).map(|task| u64::from(chain.need(task))).sum() };
+fn particulars_of_module(chain: &Chain, first: usize, reach: usize) -> [(bool, &'static str); 9] {
+    let (cores, capacity) = (chain.cores, u64::from(chain.capacity));
+    let on_board = |last| Module {
+        cores,
+        ..reach::of_one_core(first, last)
+    };
+    let shares = |last| on_board(last).shares(chain);
     let next = reach.max(first - 1) + 1;
+    let has_next = next <= chain.tasks;
     let mut module = reach::of_one_core(first, reach);
     module.cores = greedy::fewest_cores(chain, module);
     let is_cut = (1..chain.tasks).contains(&reach);
     [
-        (reach > 0 && need(reach) == board, "all of the board"),
+        (reach > 0 && shares(reach) == capacity, "all of the board"),
         (
-            next <= chain.tasks && need(next) == board + 1,
+            has_next && shares(next) == capacity + 1,
             "a KiB short for the next task",
+        ),
+        (
+            has_next && memory::added_up(&on_board(next), chain),
+            "shorter than by needs added up",
+        ),
+        (
+            has_next && memory::fits_nowhere(&on_board(next), chain),
+            "with the next task it fits at no count",
         ),
         (is_cut && chain.need(first) == 0, "begins with a need of 0"),
         (is_cut && chain.need(reach) == 0, "ends with a need of 0"),
-        (reach > 0 && need(reach) == 0, "needs of 0 only"),
+        (reach > 0 && shares(reach) == 0, "needs of 0 only"),
         (!module.within_limit(chain), "over a limit"),
         (reach > 0 && !module.replicable(chain), "not replicable"),
     ]

@@ -7,7 +7,7 @@ pub struct Lookup<'a> {
     bytes: &'a [u8],
     pub tasks: usize,
     pub cores: usize,
-    capacity: u64,
+    pub capacity: u64,
     /// The reach of each first task (document 02, M-102): at t that of task t + 1.
     reaches: [u8; MOST_TASKS],
 }
@@ -99,12 +99,17 @@ impl<'a> Lookup<'a> {
         sum + self.execution(last, p)
     }
 
-    pub fn memory_fits(&self, first: usize, last: usize, p: usize) -> bool {
+    /// What each of p cores holds of the task (document 02, M-103): its need ÷ p, rounded up.
+    pub fn share(&self, task: usize, p: usize) -> u64 {
+        self.value(task).div_ceil(p as u64)
+    }
+
+    fn memory_fits(&self, first: usize, last: usize, p: usize) -> bool {
         let mut sum = 0;
         for task in first..=last {
-            sum += self.value(task);
+            sum += self.share(task, p);
         }
-        sum <= p as u64 * self.capacity
+        sum <= self.capacity
     }
 
     /// Whether the module may have several copies.
@@ -141,7 +146,10 @@ mod tests {
     #[test]
     fn reaches_are_the_second_planners() {
         let small = (0..100 * KINDS.len() as u64).map(cases::small);
-        let large = (0..40).map(|seed| cases::sized(Kind::Reaches, MOST_TASKS, MOST_CORES, seed));
+        let large = (0..80).map(|seed| {
+            let kind = [Kind::Reaches, Kind::Shares][seed as usize % 2];
+            cases::sized(kind, MOST_TASKS, MOST_CORES, seed)
+        });
         for Case { seed, costs, .. } in small.chain(large) {
             let chain = costs::read(&costs).expect("an accepted file");
             let twin = Lookup::new(&costs, &chain);

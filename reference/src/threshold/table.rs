@@ -73,13 +73,15 @@ fn over_next(costs: &Lookup, work: &[u32], n: u64, place: Place, l: usize) -> u3
     least
 }
 
-/// And over its last task within its reach, up to the first that has too low a limit or that its memory does not allow: one cell
-/// of the table.
+/// And over its last task within its reach, up to the first that has too low a limit or with whose share the cores hold too much:
+/// one cell of the table.
 fn over_last(costs: &Lookup, work: &[u32], n: u64, place: Place) -> u32 {
     let mut least = costs.cores as u32 + 1;
+    let mut shares = 0;
     for l in place.t + 1..=costs.reach_after(place.t) {
-        // the tasks before the last one have passed
-        if !costs.within_limit(l, place.q) || !costs.memory_fits(place.t + 1, l, place.q) {
+        shares += costs.share(l, place.q);
+        // the tasks before the last one are within their limits
+        if !costs.within_limit(l, place.q) || shares > costs.capacity {
             return least;
         }
         least = least.min(over_next(costs, work, n, place, l));

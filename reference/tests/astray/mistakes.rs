@@ -1,10 +1,12 @@
 //! The wrong planners: document 01's "Where a plan goes astray", then "Before anyone tests", then mistakes in what is lent, then
-//! those about core limits; and wrong programs that fill in costs from laws, or that find reaches.
+//! those about core limits and about memory; and wrong programs that fill in costs from laws, or that find reaches.
 
 mod judges;
 pub mod laws;
 pub mod limits;
+mod memory;
 pub mod reaches;
+mod ruled;
 pub mod searches;
 
 use reference::answer::{Answer, Refusal};
@@ -77,10 +79,11 @@ const fn in_judge(what: &'static str, judge: fn(&[u8], &[u8]) -> Answer) -> Mist
     Mistake::new(what, "judge", Services { judge, ..REFERENCE })
 }
 
-/// All wrong planners.
+/// All wrong planners, and the programs that find reaches by a wrong test of memory.
 pub fn planners() -> impl Iterator<Item = Mistake> {
     let base = MISTAKES.into_iter().chain(limits::MISTAKES);
     base.chain(reaches::searches::MISTAKES)
+        .chain(memory::mistakes())
 }
 
 const MISTAKES: [Mistake; 27] = [

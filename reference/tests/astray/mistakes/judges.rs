@@ -1,4 +1,4 @@
-//! Loads of modules computed in a wrong way, and a Judge that takes the slowest module by them.
+//! Loads of modules computed in a wrong way, and a Judge that takes the slowest module by them; and the modules that one tests.
 
 use reference::answer::Answer;
 use reference::costs::{self, Chain};
@@ -11,13 +11,11 @@ pub fn judge_by(loads: fn(&Chain, &[Module]) -> Vec<Load>, costs: &[u8], plan: &
     if right.refusal != 0 {
         return right;
     }
-    let chain = costs::read(costs).expect("it was accepted");
-    let bytes = plan.first_chunk::<PLAN_BYTES>().expect("it was judged");
-    let modules = &plan::records(bytes)[..right.modules as usize];
-    let slowest = plan::slowest(&loads(&chain, modules));
+    let (chain, modules) = judged_modules(costs, plan);
+    let slowest = plan::slowest(&loads(&chain, &modules));
     Answer {
         slowest: slowest as u32 + 1,
-        response: plan::response(&chain, modules, slowest),
+        response: plan::response(&chain, &modules, slowest),
         copies: modules[slowest].copies as u32,
         ..right
     }
@@ -50,4 +48,13 @@ pub fn receiver_loads(chain: &Chain, plan: &[Module]) -> Vec<Load> {
     with_responses(plan, |i| {
         plan[i].body(chain) + plan::received(chain, plan, i)
     })
+}
+
+/// The chain of accepted costs, and the modules of a plan that refusal 12 finds no fault in.
+pub fn judged_modules(costs: &[u8], plan: &[u8]) -> (Chain, Vec<Module>) {
+    let chain = costs::read(costs).expect("it was accepted");
+    let bytes = plan.first_chunk::<PLAN_BYTES>().expect("it was judged");
+    let used = plan::records(bytes).into_iter();
+    let modules = used.take_while(|module| module.cores > 0).collect();
+    (chain, modules)
 }

@@ -3,13 +3,10 @@
 mod refusals;
 pub mod walks;
 
-use super::{Mistake, in_best_plan, in_greedy_plan, in_judge, searches};
+use super::{Mistake, in_best_plan, in_greedy_plan, in_judge, ruled};
 use reference::answer::Answer;
 use reference::costs::Chain;
-use reference::every;
-use reference::judge::judge_by;
-use reference::plan::{Module, Within};
-use walks::greedy_plan_by;
+use reference::plan::{Module, RULES, Rule, Rules};
 
 pub const MISTAKES: [Mistake; 37] = [
     // "a module's limit is the least of its tasks' limits, those without one left aside"
@@ -105,10 +102,21 @@ pub const MISTAKES: [Mistake; 37] = [
     ),
 ];
 
-/// Best plan with another test of the limits.
-fn best_plan_by(within: Within, costs: &[u8], plan: &mut [u8], work: &mut [u32]) -> Answer {
-    let search = |chain: &Chain| searches::best_within(within, chain);
-    every::best_plan_by(search, costs, plan, work)
+/// The rules with another test of the limits.
+const fn by(within: Rule) -> Rules {
+    Rules { within, ..RULES }
+}
+
+fn judge_by(within: Rule, costs: &[u8], plan: &[u8]) -> Answer {
+    ruled::judge(by(within), costs, plan)
+}
+
+fn best_plan_by(within: Rule, costs: &[u8], plan: &mut [u8], work: &mut [u32]) -> Answer {
+    ruled::best_plan(by(within), costs, plan, work)
+}
+
+fn greedy_plan_by(within: Rule, costs: &[u8], grouping: u16, plan: &mut [u8]) -> Answer {
+    ruled::greedy_plan(by(within), costs, grouping, plan)
 }
 
 fn first_limit(module: &Module, chain: &Chain) -> bool {

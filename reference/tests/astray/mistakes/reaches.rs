@@ -27,7 +27,7 @@ const fn in_place(what: &'static str, reach: Reach) -> Mistake {
     in_part(what, "reach: place", reach)
 }
 
-const fn in_count(what: &'static str, reach: Reach) -> Mistake {
+pub const fn in_count(what: &'static str, reach: Reach) -> Mistake {
     in_part(what, "reach: count", reach)
 }
 

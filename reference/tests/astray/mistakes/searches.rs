@@ -3,28 +3,26 @@
 use super::judges;
 use reference::costs::Chain;
 use reference::every::{each_plan, search, search_by};
-use reference::plan::{self, Load, Module, Within};
+use reference::plan::{self, Load, Module, RULES};
 
 fn greatest(loads: &[Load]) -> Load {
     loads[plan::slowest(loads)]
 }
 
 pub fn drops_the_rest(chain: &Chain) -> Option<Vec<Module>> {
-    search_by(chain, |chain, plan| {
-        greatest(&judges::whole_loads(chain, plan))
-    })
+    let bottleneck = |chain: &Chain, plan: &[Module]| greatest(&judges::whole_loads(chain, plan));
+    search_by(RULES, bottleneck, chain)
 }
 
 pub fn charges_sender(chain: &Chain) -> Option<Vec<Module>> {
-    search_by(chain, |chain, plan| {
-        greatest(&judges::sender_loads(chain, plan))
-    })
+    let bottleneck = |chain: &Chain, plan: &[Module]| greatest(&judges::sender_loads(chain, plan));
+    search_by(RULES, bottleneck, chain)
 }
 
 pub fn charges_receiver(chain: &Chain) -> Option<Vec<Module>> {
-    search_by(chain, |chain, plan| {
-        greatest(&judges::receiver_loads(chain, plan))
-    })
+    let bottleneck =
+        |chain: &Chain, plan: &[Module]| greatest(&judges::receiver_loads(chain, plan));
+    search_by(RULES, bottleneck, chain)
 }
 
 /// The plan that comes first among those that pass, by bottleneck, then cores, then module order.
@@ -42,11 +40,6 @@ pub fn best_that_passes(chain: &Chain, passes: impl Fn(&[Module]) -> bool) -> Op
         }
     });
     best
-}
-
-/// The best plan by another test of the limits.
-pub fn best_within(within: Within, chain: &Chain) -> Option<Vec<Module>> {
-    best_that_passes(chain, |plan| plan::keeps_rules_by(within, chain, plan))
 }
 
 fn comes_before(chain: &Chain, rival: &[Module], best: &[Module]) -> bool {

@@ -5,11 +5,11 @@ use Rattle.laws.proofs.Products.{product-bound}
 use Rattle.laws.proofs.value.five.Statement.{statement}
 use Rattle.laws.proofs.value.five.Tie as tie
 
-up-requires : tie.Need-up-requires
-up-requires c κs = search needs
+rounded-up-requires : tie.Need-rounded-up-requires
+rounded-up-requires c κs = search needs
 
-up-requires-2 : tie.Need-up-requires-2
-up-requires-2 c κs = search needs
+rounded-up-requires-2 : tie.Need-rounded-up-requires-2
+rounded-up-requires-2 c κs = search needs
 
 mul-sending : tie.Need-mul-sending
 mul-sending c = let a = c .before .before .args in omega (arith, product-bound (a .c4) (a .s) (omega arith) (omega arith))
@@ -38,8 +38,8 @@ pub five-spec : {M : Type 1} → statement M
 five-spec =
     tie.close
     (tie.spec
-    up-requires
-    up-requires-2
+    rounded-up-requires
+    rounded-up-requires-2
     mul-sending
     mul-receiving
     add-result

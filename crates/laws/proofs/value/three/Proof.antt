@@ -5,8 +5,8 @@ use Rattle.laws.proofs.Products.{product-bound}
 use Rattle.laws.proofs.value.three.Statement.{statement}
 use Rattle.laws.proofs.value.three.Tie as tie
 
-up-requires : tie.Need-up-requires
-up-requires c κs = search needs
+rounded-up-requires : tie.Need-rounded-up-requires
+rounded-up-requires c κs = search needs
 
 mul-grows : tie.Need-mul-grows
 mul-grows c = let a = c .before .args in omega (arith, product-bound (a .c3) (a .p) (omega arith) (omega arith))
@@ -21,4 +21,4 @@ returns : tie.Need-returns
 returns c = search needs
 
 pub three-spec : {M : Type 1} → statement M
-three-spec = tie.close (tie.spec up-requires mul-grows add-result add-result-2 returns)
+three-spec = tie.close (tie.spec rounded-up-requires mul-grows add-result add-result-2 returns)

@@ -2,13 +2,13 @@
 -- later last task too, and beyond its reach it breaks one at all cores, so the least so far is the whole.
 use Prim.Native.Nat.{_+_, _-_, _≤_}
 use native.Mathlib.Omega.{arith}
-use mathlib.Core.Path.{_≡_, sym, _∙_}
+use mathlib.Core.Path.{_≡_, sym, _∙_, ap}
 use mathlib.Core.Bool.{true}
 use borrow.Author.Needs.{needs}
 use borrow.Author.Tests.{not-true, not-false}
 use Rattle.modules.specs.Model.{chainOf}
-use Rattle.modules.specs.Rules.{moduleRules}
-use Rattle.modules.proofs.Laws.{rules-none, rules-longer, reach-inside}
+use Rattle.modules.specs.Rules.{shares, moduleRules, stillKept}
+use Rattle.modules.proofs.Laws.{shares-none, shares-more, rules-none, rules-shares, rules-longer, reach-inside}
 use Rattle.search.specs.Least.{least}
 use Rattle.search.specs.Plan.{cap}
 use Rattle.search.specs.Weight.{overNext}
@@ -22,12 +22,13 @@ use Rattle.planners.proofs.table.over_last.Statement.{statement}
 use Rattle.planners.proofs.table.over_last.Tie as tie
 
 abbrev Inv-loop : tie.InvT-loop
-Inv-loop costs board end work n s t q m₀ l₀ m l =
+Inv-loop costs board end work n s t q m₀ sum₀ l₀ m sum l =
     let x = problem (chainOf costs board) in
     (t + 1 ≤ l) × (l ≤ board .tasks + 1) × (moduleRules (chainOf costs board) (t + 1) (l - 1) 1 q ≡ true) × (m ≡ least (cap x) l (overNext x (fitsAt x n) (readTable x work) s t q))
+    × (sum ≡ shares (chainOf costs board) (t + 1) (l - 1) q)
 
 abbrev μ-loop : tie.MeasureT-loop
-μ-loop costs board end work n s t q m₀ l₀ m l = end + 1 - l
+μ-loop costs board end work n s t q m₀ sum₀ l₀ m sum l = end + 1 - l
 
 cast-m : tie.Need-cast-m Inv-loop μ-loop
 cast-m c = search needs
@@ -41,21 +42,35 @@ add-l c = omega arith
 loop-holds : tie.Need-loop-holds Inv-loop μ-loop
 loop-holds c =
     let a = c .before .before .before .args in
-    let k = chainOf (a .costs .now) (a .board) in
-    (omega arith, omega arith, rules-none k (a .t + 1) (a .t + 1 - 1) (a .q) (omega arith), sym (chain-cap k) ∙ last-start (problem k) (a .n) (a .work .now) (a .s) (a .t) (a .q))
+    let k = chainOf (a .costs .now) (a .board) in (
+      omega arith,
+      omega arith,
+      rules-none k (a .t + 1) (a .t + 1 - 1) (a .q) (omega arith) (omega arith),
+      sym (chain-cap k) ∙ last-start (problem k) (a .n) (a .work .now) (a .s) (a .t) (a .q),
+      sym (shares-none k (a .t + 1) (a .t + 1 - 1) (a .q) (omega arith)),
+    )
 
-add-still-kept : tie.Need-add-still-kept Inv-loop μ-loop
-add-still-kept c = omega arith
+share-requires : tie.Need-share-requires Inv-loop μ-loop
+share-requires c κs = search needs
+
+add-sum : tie.Need-add-sum Inv-loop μ-loop
+add-sum c =
+    let o = c .before .before in
+    let a = o .before .before .before .before .args in
+    let within = rules-shares (chainOf (a .costs .now) (a .board)) (a .t + 1) (o .loop .l - 1) 1 (a .q) (o .loop .inv .2) in
+    omega arith
 
 still-kept-requires : tie.Need-still-kept-requires Inv-loop μ-loop
 still-kept-requires c κs = search needs
 
 returns : tie.Need-returns Inv-loop μ-loop
 returns c =
-    let o = c .before .before .before in
+    let o = c .before .before .before .before in
     let a = o .before .before .before .before .args in
     let k = chainOf (a .costs .now) (a .board) in
-    let asked = c .before .still-kept .ensures ∙ rules-longer k (a .t + 1) (o .loop .l) (a .q) (o .loop .inv .0) (o .loop .inv .2) in
+    let whole = shares-more k (a .t + 1) (o .loop .l) (a .q) (omega arith) (o .loop .inv .0) in
+    let asked = c .before .still-kept .ensures ∙ ap (stillKept k (o .loop .l) (a .q)) (omega (arith, o .loop .inv .4, c .before .before .share .ensures .0))
+    ∙ rules-longer k (a .t + 1) (o .loop .l) (a .q) (o .loop .inv .0) (o .loop .inv .2) in
     let unfit = sym asked ∙ not-true _ (c .if1 .taken) in
     let inside = reach-inside k (a .t + 1) in
     let e = last-stop k (a .n) (a .s) (a .t) (a .q) (readTable (problem k) (a .work .now)) (o .loop .l) (o .loop .m) (omega arith) unfit (o .loop .inv .3) in
@@ -63,11 +78,13 @@ returns c =
 
 over-next-requires : tie.Need-over-next-requires Inv-loop μ-loop
 over-next-requires c κs =
-    let o = c .before .before .before in
+    let o = c .before .before .before .before in
     let b = o .before .before .before .before in
     let k = chainOf (b .args .costs .now) (b .args .board) in
     let reached : Reached k (b .args .t) (o .loop .l) = record { later = omega arith; within = omega arith } in
-    let asked = c .before .still-kept .ensures ∙ rules-longer k (b .args .t + 1) (o .loop .l) (b .args .q) (o .loop .inv .0) (o .loop .inv .2) in
+    let whole = shares-more k (b .args .t + 1) (o .loop .l) (b .args .q) (omega arith) (o .loop .inv .0) in
+    let asked = c .before .still-kept .ensures ∙ ap (stillKept k (o .loop .l) (b .args .q)) (omega (arith, o .loop .inv .4, c .before .before .share .ensures .0))
+    ∙ rules-longer k (b .args .t + 1) (o .loop .l) (b .args .q) (o .loop .inv .0) (o .loop .inv .2) in
     (b .pre .0, b .pre .1, reached, sym asked ∙ not-false _ (c .if1 .left))
 
 lesser-requires : tie.Need-lesser-requires Inv-loop μ-loop
@@ -82,14 +99,21 @@ loop-less c = omega arith
 loop-again : tie.Need-loop-again Inv-loop μ-loop
 loop-again c =
     let x = c .before .before .before in
-    let o = x .before .before in
+    let o = x .before .before .before in
     let a = o .before .before .before .before .args in
     let k = chainOf (a .costs .now) (a .board) in
     let e : o .loop .l + 1 - 1 ≡ o .loop .l = omega arith in
-    let asked = x .still-kept .ensures ∙ rules-longer k (a .t + 1) (o .loop .l) (a .q) (o .loop .inv .0) (o .loop .inv .2) in
+    let whole = shares-more k (a .t + 1) (o .loop .l) (a .q) (omega arith) (o .loop .inv .0) in
+    let asked = x .still-kept .ensures ∙ ap (stillKept k (o .loop .l) (a .q)) (omega (arith, o .loop .inv .4, x .before .share .ensures .0))
+    ∙ rules-longer k (a .t + 1) (o .loop .l) (a .q) (o .loop .inv .0) (o .loop .inv .2) in
     let kept = sym asked ∙ not-false _ (c .before .before .if1 .left) in
-    let inside = reach-inside k (a .t + 1) in
-    (omega arith, omega arith, rw e kept, least-more _ _ _ _ _ (o .loop .inv .3) (c .lesser .ensures ∙ rw (c .before .over-next .ensures .0)))
+    let inside = reach-inside k (a .t + 1) in (
+      omega arith,
+      omega arith,
+      rw e kept,
+      least-more _ _ _ _ _ (o .loop .inv .3) (c .lesser .ensures ∙ rw (c .before .over-next .ensures .0)),
+      rw e (omega (arith, o .loop .inv .4, x .before .share .ensures .0)),
+    )
 
 returns-2 : tie.Need-returns-2 Inv-loop μ-loop
 returns-2 c =
@@ -110,7 +134,8 @@ over-last-spec =
     add-m
     add-l
     loop-holds
-    add-still-kept
+    share-requires
+    add-sum
     still-kept-requires
     returns
     over-next-requires

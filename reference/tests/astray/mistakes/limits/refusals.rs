@@ -1,9 +1,10 @@
 //! Judges that refuse by document 02's M-100 in a wrong way: 5 and 6, which are the reader's, and 16.
 
+use crate::mistakes::judges::judged_modules;
 use reference::answer::{Answer, Refusal};
-use reference::costs::{self, Chain, MOST_CORES, RECORD_BYTES};
+use reference::costs::{MOST_CORES, RECORD_BYTES};
 use reference::judge::judge;
-use reference::plan::{self, Module, PLAN_BYTES};
+use reference::plan;
 
 /// Judge with a reader that is sized by the board.
 pub fn above_cores(costs: &[u8], plan: &[u8]) -> Answer {
@@ -53,15 +54,6 @@ pub fn takes_33(costs: &[u8], plan: &[u8]) -> Answer {
         }
     }
     judge(&lowered, plan)
-}
-
-/// The chain of accepted costs, and the modules of a plan that refusal 12 finds no fault in.
-fn judged_modules(costs: &[u8], plan: &[u8]) -> (Chain, Vec<Module>) {
-    let chain = costs::read(costs).expect("it was accepted");
-    let bytes = plan.first_chunk::<PLAN_BYTES>().expect("it was judged");
-    let used = plan::records(bytes).into_iter();
-    let modules = used.take_while(|module| module.cores > 0).collect();
-    (chain, modules)
 }
 
 pub fn after_cores(costs: &[u8], plan: &[u8]) -> Answer {

@@ -1,24 +1,16 @@
 //! Greedy ways that go by document 02's M-100 in a wrong way: at the start, with refusal 11, or on the walk.
 
-use super::ignored;
+use super::{by, ignored};
 use reference::answer::{Answer, Refusal};
 use reference::costs::Chain;
 use reference::greedy;
-use reference::plan::{self, Load, Module, Within};
+use reference::plan::{self, Load, Module, RULES};
 
 /// One way to begin, or to refuse.
 type Start = fn(&Chain, Vec<Module>) -> Result<Vec<Module>, Refusal>;
 
 /// One way to give out a core, or to end.
 type Give = fn(&Chain, &[Module]) -> Option<Vec<Module>>;
-
-/// The greedy way with another test of the limits, at its start and on its walk.
-pub fn greedy_plan_by(within: Within, costs: &[u8], grouping: u16, plan: &mut [u8]) -> Answer {
-    let start = |chain: &Chain, modules| greedy::start_by(within, chain, modules);
-    let give = |chain: &Chain, current: &[Module]| greedy::give_by(within, chain, current);
-    let walk = |chain: &Chain, start| greedy::walk_by(give, chain, start);
-    greedy::greedy_plan_by(start, walk, costs, grouping, plan)
-}
 
 /// The greedy way with another start.
 fn starting(start: Start, costs: &[u8], grouping: u16, plan: &mut [u8]) -> Answer {
@@ -33,14 +25,14 @@ fn giving(give: Give, costs: &[u8], grouping: u16, plan: &mut [u8]) -> Answer {
 
 /// The walk alone goes by the limits.
 pub fn start_ignores(costs: &[u8], grouping: u16, plan: &mut [u8]) -> Answer {
-    let start = |chain: &Chain, modules| greedy::start_by(ignored, chain, modules);
+    let start = |chain: &Chain, modules| greedy::start_by(by(ignored), chain, modules);
     starting(start, costs, grouping, plan)
 }
 
 /// Refusal 11 has the first module whose fewest cores exceed its limit as its place, if there is one.
 pub fn start_with_place(costs: &[u8], grouping: u16, plan: &mut [u8]) -> Answer {
     let start = |chain: &Chain, modules: Vec<Module>| {
-        let fewest = greedy::with_fewest_cores(chain, modules.clone());
+        let fewest = greedy::with_fewest_cores(RULES.fits, chain, modules.clone());
         let over = fewest.iter().position(|module| !module.within_limit(chain));
         let with_place = |right| over.map_or(right, |i| Refusal::at(11, i + 1));
         greedy::start(chain, modules).map_err(with_place)
@@ -63,7 +55,7 @@ pub fn start_at_limit(costs: &[u8], grouping: u16, plan: &mut [u8]) -> Answer {
 /// A module that needs more than its limit starts at its limit.
 pub fn start_cut_to_limit(costs: &[u8], grouping: u16, plan: &mut [u8]) -> Answer {
     let start = |chain: &Chain, modules| {
-        let mut cut = greedy::with_fewest_cores(chain, modules);
+        let mut cut = greedy::with_fewest_cores(RULES.fits, chain, modules);
         for module in &mut cut {
             let most = module.limit(chain).unwrap_or(module.cores);
             module.cores = module.cores.min(most);

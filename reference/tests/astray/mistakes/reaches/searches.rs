@@ -1,14 +1,15 @@
 //! Best plans of modules that end within a wrong reach. Each is too small: one that is too great changes no answer, since the rules
 //! are asked too.
 
-use super::modules::{below_board, on_one_core, replicable, with_a_core_less};
+use super::modules::{on_one_core, replicable, with_a_core_less};
+use crate::mistakes::memory::fits::below_capacity;
 use crate::mistakes::searches::best_that_passes;
 use crate::mistakes::{Mistake, in_best_plan};
 use reference::answer::Answer;
 use reference::costs::Chain;
 use reference::every;
 use reference::plan::{self, Module};
-use reference::reach::{longest_by, reach_of};
+use reference::reach::{fits_board_by, longest_by, reach_of};
 
 pub const MISTAKES: [Mistake; 5] = [
     // "Best plan … works out no response for a module beyond it. Every answer and refusal is the one given before."
@@ -21,7 +22,7 @@ pub const MISTAKES: [Mistake; 5] = [
     in_best_plan("reaches of replicable modules", |costs, plan, work| {
         within_longest(replicable, costs, plan, work)
     }),
-    in_best_plan("reaches of less than the board", |costs, plan, work| {
+    in_best_plan("reaches below the capacity", |costs, plan, work| {
         within_longest(below_board, costs, plan, work)
     }),
     in_best_plan("the reach of the next task", |costs, plan, work| {
@@ -56,4 +57,9 @@ fn within(
         })
     };
     every::best_plan_by(search, costs, plan, work)
+}
+
+/// The shares are below the capacity at some count of the board's cores.
+fn below_board(chain: &Chain, module: Module) -> bool {
+    fits_board_by(below_capacity, chain, module)
 }

@@ -1,12 +1,13 @@
--- `up` is `roundedUp`: no cores divide to 0, and a quotient is at most what is divided.
+-- `rounded_up` is `roundedUp`: by 0 the quotient is 0.
 use mathlib.Core.Path.{_≡_, refl, sym}
 use Prim.Native.Nat.{_+_, _-_}
-use native.Mathlib.Nat.{div-zero, div-le-self}
+use native.Mathlib.Nat.{div-zero}
 use native.Mathlib.Omega.{arith}
 use borrow.Author.Needs.{needs}
-use Rattle.laws.specs.Laws.{roundedUp}
-use Rattle.laws.proofs.value.up.Statement.{statement}
-use Rattle.laws.proofs.value.up.Tie as tie
+use Rattle.rounding.specs.Rounding.{roundedUp}
+use Rattle.rounding.proofs.Laws.{rounded-most}
+use Rattle.rounding.proofs.quotient.rounded_up.Statement.{statement}
+use Rattle.rounding.proofs.quotient.rounded_up.Tie as tie
 
 returns : tie.Need-returns
 unfolding roundedUp
@@ -28,7 +29,7 @@ returns-2 : tie.Need-returns-2
 unfolding roundedUp
 returns-2 c =
     let a = c .before .args in
-    (refl, omega (arith, div-le-self (a .x + (a .y - 1)) (a .y)))
+    (refl, rounded-most (a .x) (a .y))
 
-pub up-spec : {M : Type 1} → statement M
-up-spec = tie.close (tie.spec returns sub-rest add-result div-result returns-2)
+pub rounded-up-spec : {M : Type 1} → statement M
+rounded-up-spec = tie.close (tie.spec returns sub-rest add-result div-result returns-2)
