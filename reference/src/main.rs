@@ -57,7 +57,7 @@ fn repeated<'a>(costs: &'a [u8], search: &'a Search, searches: usize) -> Box<dyn
 /// Costs without memory needs and core limits, by which nothing cuts a search short.
 fn unlimited(kind: Kind, tasks: usize, cores: usize) -> Chain {
     let case = cases::sized(kind, tasks, cores, 7);
-    let chain = costs::read(&case.costs).expect("an accepted file");
+    let chain = case.chain();
     Chain {
         needs: vec![0; tasks],
         flags: vec![true; tasks],

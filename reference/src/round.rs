@@ -7,7 +7,6 @@ pub mod reaches;
 use crate::answer::Answer;
 use crate::cases::Case;
 use crate::compare::{self, Both, Difference, Lent};
-use crate::costs;
 use crate::damage;
 use crate::every::WORK_WORDS;
 use crate::plan::PLAN_BYTES;
@@ -44,7 +43,7 @@ fn all_groupings(
     lent: Lent,
     tally: &mut Tally,
 ) -> Result<(), Difference> {
-    let chain = costs::read(&case.costs).expect("an accepted file");
+    let chain = case.chain();
     let tasks = case.costs[3];
     let allowed = 0..1 << (tasks - 1);
     let beyond = (tasks - 1..16).map(|bit| 1 << bit | 1);

@@ -134,7 +134,7 @@ fn limits_decide() {
     let mut tally = Tally::default();
     let files = (0..1_000 * KINDS.len() as u64).map(cases::small);
     for case in files.filter(|case| matches!(case.kind, Kind::Limits | Kind::TightLimits)) {
-        let chain = costs::read(&case.costs).expect("an accepted file");
+        let chain = case.chain();
         let unlimited = Chain {
             limits: vec![None; chain.tasks],
             ..chain.clone()
@@ -204,7 +204,7 @@ fn quick_searches_find_what_trying_all_plans_finds() {
             Ok((answer, _)) => answer,
             Err(difference) => compare::fail(seed, &case.costs, &difference),
         };
-        let chain = costs::read(&case.costs).expect("an accepted file");
+        let chain = case.chain();
         let least = paper::least_bottleneck(&chain);
         let expected = (answer.refusal == 0).then_some(Load {
             response: answer.response,

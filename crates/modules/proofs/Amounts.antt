@@ -1,5 +1,5 @@
 -- Sums over a module's tasks and what is made of them: a part of the tasks sums to no more, so dropping tasks at an end never
--- makes memory, rules or response worse; and a bound on each value bounds the sum. Assumes nothing.
+-- makes copies or response worse; and a bound on each value bounds the sum. Assumes nothing.
 use mathlib.Core.Path.{_≡_, refl, ap}
 use mathlib.Core.Bool.{Bool, true, false, cond, _||_}
 use mathlib.Core.Logic.{⊎-elim}
@@ -7,11 +7,10 @@ use Prim.Native.Nat.{ℕ, zero, suc, _+_, _-_, _*_, _≤_}
 use native.Mathlib.Nat.{suc-mul, mul-le-mul-right}
 use native.Mathlib.Omega.{arith}
 use lib.Dec.{leb, eqb}
-use borrow.Author.Tests.{le-leb, eq-eqb, leb-true, eqb-true}
-use Rattle.records.proofs.Cases.{lt-or-le, and-true, or-unless, or-right}
+use borrow.Author.Tests.{eq-eqb, eqb-true}
+use Rattle.records.proofs.Cases.{lt-or-le, or-unless, or-right}
 use Rattle.modules.specs.Model.{Chain, run, gather, nothing, body, transfer, response}
-use Rattle.modules.specs.Rules.{share, shares, memoryFits, mark, copiesAllowed, withinLimit, moduleRules}
-use Rattle.modules.proofs.Limiting.{limit-drop}
+use Rattle.modules.specs.Rules.{mark, copiesAllowed}
 use Rattle.modules.proofs.Sums.{gather-some, gather-none}
 
 -- ---- the sum
@@ -85,25 +84,11 @@ run-shift f g f′ g′ d a b (suc n) t =
 -- ---- dropping tasks at an end of a module
 
 module _ (c : Chain) (first last from to : ℕ) (h : first ≤ from) (i : to ≤ last) where
-  pub memory-drop : (p : ℕ) → memoryFits c first last p ≡ true → memoryFits c from to p ≡ true
-  unfolding memoryFits shares
-  memory-drop p e =
-      let t = and-true (leb 1 p) (leb (shares c first last p) (c .capacity)) e in
-      let less : shares c from to p ≤ c .capacity = omega (arith, gather-part (λ t. share c t p) nothing first last from to h i, leb-true (shares c first last p) (c .capacity) (t .1)) in
-      simp (t .0, le-leb (shares c from to p) (c .capacity) less)
-
   pub copies-drop : (r : ℕ) → copiesAllowed c first last r ≡ true → copiesAllowed c from to r ≡ true
   unfolding copiesAllowed
   copies-drop r e = or-unless (leb r 1) (eqb (gather (mark c) nothing from to) 0) (λ f.
       eq-eqb (gather (mark c) nothing from to) 0
       (omega (arith, gather-part (mark c) nothing first last from to h i, eqb-true (gather (mark c) nothing first last) 0 (or-right (leb r 1) (eqb (gather (mark c) nothing first last) 0) e f))))
-
-  pub rules-drop : (r p : ℕ) → moduleRules c first last r p ≡ true → moduleRules c from to r p ≡ true
-  unfolding moduleRules
-  rules-drop r p e =
-      let t = and-true _ (withinLimit c first last p) e in
-      let u = and-true (copiesAllowed c first last r) (memoryFits c first last p) (t .0) in
-      simp (copies-drop r (u .0), memory-drop p (u .1), limit-drop c first last from to h i p (t .1))
 
   pub body-drop : (p : ℕ) → body c from to p ≤ body c first last p
   unfolding body

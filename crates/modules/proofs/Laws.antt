@@ -23,13 +23,13 @@ use Rattle.modules.proofs.Sharing as sharing
 
 module _ (c : Chain) (first last : ℕ) where
   pub memory-drop : (from to : ℕ) → first ≤ from → to ≤ last → (p : ℕ) → memoryFits c first last p ≡ true → memoryFits c from to p ≡ true
-  memory-drop = amounts.memory-drop c first last
+  memory-drop = sharing.memory-drop c first last
 
   pub limit-drop : (from to : ℕ) → first ≤ from → to ≤ last → (p : ℕ) → withinLimit c first last p ≡ true → withinLimit c from to p ≡ true
   limit-drop = limiting.limit-drop c first last
 
   pub rules-drop : (from to : ℕ) → first ≤ from → to ≤ last → (r p : ℕ) → moduleRules c first last r p ≡ true → moduleRules c from to r p ≡ true
-  rules-drop = amounts.rules-drop c first last
+  rules-drop = lengthening.rules-drop c first last
 
   pub response-drop-last : (s to r p q : ℕ) → to ≤ last → response c s first to r p 0 ≤ response c s first last r p q
   response-drop-last s to r p q h = amounts.response-drop-last c s first last to r p q h

@@ -21,8 +21,8 @@ use Rattle.modules.specs.Model.{Chain, chainOf}
 use Rattle.modules.specs.Rules.{memoryFits, copiesAllowed, withinLimit, moduleRules, fewestCores}
 use Rattle.modules.specs.Reach.{reachOf, reach, reachAnswer}
 use Rattle.modules.specs.Claims.{IsReach, NoReach, SomeHold, Reaches, Reaches.reached, Reaches.costs-wrong}
-use Rattle.modules.proofs.Amounts.{memory-drop}
 use Rattle.modules.proofs.Fewest.{fewest-some, fewest-most, fewest-fits, fewest-low}
+use Rattle.modules.proofs.Sharing.{memory-drop}
 
 -- ---- what is found
 

@@ -1,5 +1,5 @@
--- Memory split task by task (document 02, M-103): what a share is, how shares add up as a module grows, when they fit, that more cores
--- never make a module unfit, and which modules fit on no cores at all. By comparing the sums task by task. Assumes nothing.
+-- Memory split task by task (document 02, M-103): what a share is, how shares add up as a module grows, when they fit, that fewer tasks
+-- and more cores never make a module unfit, and which modules fit on no cores at all. By comparing the sums task by task. Assumes nothing.
 use mathlib.Core.Path.{_≡_}
 use mathlib.Core.Bool.{true, false}
 use mathlib.Core.Logic.{_↔_, ⊎-elim}
@@ -12,7 +12,7 @@ use Rattle.records.proofs.Cases.{lt-or-le, and-true, false-unless, true-not-fal
 use Rattle.modules.specs.Model.{Chain, nothing}
 use Rattle.modules.specs.Rules.{share, shares, memoryFits}
 use Rattle.modules.specs.Claims.{needy, needing}
-use Rattle.modules.proofs.Amounts.{gather-less}
+use Rattle.modules.proofs.Amounts.{gather-part, gather-less}
 use Rattle.modules.proofs.Sums.{gather-none, gather-last}
 
 -- ---- a share
@@ -86,3 +86,12 @@ module _ (c : Chain) (first last : ℕ) where
         (lt-or-le (c .capacity) (needing c first last)),
     λ h p. false-unless (memoryFits c first last p) (memory-exactly p .0) (λ t. omega (arith, needing-least p (t .0))),
   )
+
+-- ---- dropping tasks at an end
+
+module _ (c : Chain) (first last from to : ℕ) (h : first ≤ from) (i : to ≤ last) where
+  pub memory-drop : (p : ℕ) → memoryFits c first last p ≡ true → memoryFits c from to p ≡ true
+  unfolding shares
+  memory-drop p e =
+      let t = memory-exactly c first last p .0 e in
+      memory-exactly c from to p .1 (t .0, omega (arith, t .1, gather-part (λ t. share c t p) nothing first last from to h i))

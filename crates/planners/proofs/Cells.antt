@@ -1,7 +1,7 @@
 -- The table of a chain as the planner computes it: what it reads depends on the board's size alone, the least over the copies is
 -- one division, and last tasks past the first at which a module of one copy breaks a rule, or past its reach, add nothing. By the
 -- search's laws at the problem of a chain. Assumes nothing.
-use mathlib.Core.Path.{_≡_, refl, sym, _∙_}
+use mathlib.Core.Path.{_≡_, refl, sym, _∙_, ap}
 use mathlib.Core.Bool.{Bool, true, false, _&&_, _||_, and-true, or-comm}
 use mathlib.Core.List.{List}
 use mathlib.Core.Logic.{⊎-elim}
@@ -13,9 +13,9 @@ use lib.Dec.{T, leb, leb→le, le→leb, not-T}
 use Rattle.records.specs.declared.Board.{Board}
 use Rattle.records.proofs.Cases.{lt-or-le, true-not-false, false-unless}
 use Rattle.modules.specs.Model.{Chain, response, transfer, body}
-use Rattle.modules.specs.Rules.{moduleRules, copiesAllowed}
+use Rattle.modules.specs.Rules.{share, shares, moduleRules, stillKept, copiesAllowed}
 use Rattle.modules.specs.Reach.{reach}
-use Rattle.modules.proofs.Laws.{rules-drop, rules-apart, rules-reach}
+use Rattle.modules.proofs.Laws.{shares-more, rules-drop, rules-apart, rules-longer, rules-reach}
 use Rattle.search.specs.Least.{pick, lesser, least}
 use Rattle.search.specs.Copies.{loadOf, fewest}
 use Rattle.search.specs.Plan.{cap}
@@ -122,6 +122,12 @@ module _ {c : Chain} {s t q l base : ℕ} {rep : Bool} (h : Loaded c s t q l bas
       sym (cheapest ∙ pick-yes (a && b) _ _ (and-i a b (le→leb 1 r u) (le→leb (s + r * q + q′) (c .board) v)))
 
 -- ---- over the last task
+
+-- what is answered of the sum so far and the last task's share (M-103) says whether the module keeps the rules with that task too
+pub kept-longer : (c : Chain) (t l q sum added : ℕ) {kept : Bool} → t + 1 ≤ l → sum ≡ shares c (t + 1) (l - 1) q → added ≡ share c l q
+    → moduleRules c (t + 1) (l - 1) 1 q ≡ true → kept ≡ stillKept c l q (sum + added) → kept ≡ moduleRules c (t + 1) l 1 q
+kept-longer c t l q sum added h e f before asked =
+    asked ∙ ap (stillKept c l q) (omega (arith, e, f, shares-more c (t + 1) l q (omega arith) h)) ∙ rules-longer c (t + 1) l q h before
 
 module _ (c : Chain) (n s t q : ℕ) (rest : Table) where
   -- nothing comes of a last task at which the module breaks a rule in one copy

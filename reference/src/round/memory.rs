@@ -5,7 +5,7 @@ use super::count;
 use crate::answer::Answer;
 use crate::cases::Case;
 use crate::compare::{self, Both, Difference};
-use crate::costs::{self, Chain};
+use crate::costs::Chain;
 use crate::damage;
 use crate::greedy;
 use crate::plan::{self, Module, RULES, Rules};
@@ -39,7 +39,7 @@ pub fn judged(
     random: &mut Random,
     tally: &mut Tally,
 ) -> Result<(), Difference> {
-    let chain = costs::read(&case.costs).expect("an accepted file");
+    let chain = case.chain();
     for _ in 0..6 {
         let plan = damage::tight_plan(&chain, random);
         let answer = compare::judge(both, &plan)?;

@@ -3,7 +3,7 @@
 use super::memory;
 use crate::cases::Case;
 use crate::compare::{self, Both, Difference};
-use crate::costs::{self, Chain};
+use crate::costs::Chain;
 use crate::greedy;
 use crate::plan::Module;
 use crate::random::Random;
@@ -17,7 +17,7 @@ pub fn all(
     random: &mut Random,
     tally: &mut Tally,
 ) -> Result<(), Difference> {
-    let chain = costs::read(&case.costs).expect("an accepted file");
+    let chain = case.chain();
     let mut reaches = Vec::new();
     for first in 0..=case.costs[3] + 1 {
         reaches.push(compare::reach(both, first)?.count as usize);

@@ -219,7 +219,7 @@ fn wrong_searches_miss_the_least_bottleneck() {
     ];
     for (i, wrong) in wrong_searches.into_iter().enumerate() {
         let misses = |seed: &u64| {
-            let chain = costs::read(&cases::small(*seed).costs).expect("an accepted file");
+            let chain = cases::small(*seed).chain();
             let found = every::search(&chain).zip(wrong(&chain));
             found.is_some_and(|(best, found)| is_worse(&chain, &best, &found))
         };

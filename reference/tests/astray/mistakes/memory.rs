@@ -15,15 +15,18 @@ use reference::round::memory::added_up;
 
 /// All of them.
 pub fn mistakes() -> impl Iterator<Item = Mistake> {
-    let tests = IN_EACH.into_iter().flatten().chain(IN_SOME);
+    let in_each = IN_EACH
+        .into_iter()
+        .flat_map(|(three, reach)| three.into_iter().chain([reach]));
+    let tests = in_each.chain(IN_THREE.into_iter().flatten()).chain(IN_TWO);
     tests
         .chain(judges::MISTAKES)
         .chain(starts::MISTAKES)
         .chain(plans::MISTAKES)
 }
 
-/// The wrong test in each of the services that ask for memory.
-macro_rules! in_each {
+/// The wrong test in Judge, in Best plan and in the greedy way.
+macro_rules! in_three {
     ($what:literal, $fits:path) => {
         [
             in_judge($what, |costs, plan| judge_by($fits, costs, plan)),
@@ -33,12 +36,21 @@ macro_rules! in_each {
             in_greedy_plan($what, |costs, grouping, plan| {
                 greedy_plan_by($fits, costs, grouping, plan)
             }),
-            in_count($what, |costs, first| reach_by($fits, costs, first)),
         ]
     };
 }
 
-const IN_EACH: [[Mistake; 4]; 20] = [
+/// And in a reach.
+macro_rules! in_each {
+    ($what:literal, $fits:path) => {
+        (
+            in_three!($what, $fits),
+            in_count($what, |costs, first| reach_by($fits, costs, first)),
+        )
+    };
+}
+
+const IN_EACH: [([Mistake; 3], Mistake); 20] = [
     // "cuts each task's data over the copy's cores separately". The sum rounded up once is the same as the needs added up: ⌈sum ÷
     // p⌉ is at most the capacity exactly if the sum is at most p times it; and so are fewest cores of ⌈sum ÷ capacity⌉, or one
     in_each!("needs added up", added_up),
@@ -67,43 +79,22 @@ const IN_EACH: [[Mistake; 4]; 20] = [
     in_each!("a capacity of 16 bits", fits::capacity_of_16_bits),
 ];
 
-/// Tests that are wrong in some services only. A reach goes by all cores of the board anyway, and by a test that every module
-/// passes on them it is "the whole chain always" of `reaches::ends`. The greedy way has no copies.
-const IN_SOME: [Mistake; 11] = [
+/// Tests that are not wrong in a reach, which goes by all cores of the board anyway; by a test that every module passes on them it
+/// is "the whole chain always" of `reaches::ends`.
+const IN_THREE: [[Mistake; 3]; 3] = [
+    in_three!("shares of the board's cores", fits::of_board),
+    // "some modules now fit at no count of cores"
+    in_three!("all cores hold what no count does", fits::whole_board_holds),
+    in_three!("memory is not asked", fits::ignored),
+];
+
+/// The greedy way has no copies.
+const IN_TWO: [Mistake; 2] = [
     in_judge("shares of all copies' cores", |costs, plan| {
         judge_by(fits::of_all_copies, costs, plan)
     }),
     in_best_plan("shares of all copies' cores", |costs, plan, work| {
         best_plan_by(fits::of_all_copies, costs, plan, work)
-    }),
-    in_judge("shares of the board's cores", |costs, plan| {
-        judge_by(fits::of_board, costs, plan)
-    }),
-    in_best_plan("shares of the board's cores", |costs, plan, work| {
-        best_plan_by(fits::of_board, costs, plan, work)
-    }),
-    in_greedy_plan("shares of the board's cores", |costs, grouping, plan| {
-        greedy_plan_by(fits::of_board, costs, grouping, plan)
-    }),
-    // "some modules now fit at no count of cores"
-    in_judge("all cores hold what no count does", |costs, plan| {
-        judge_by(fits::whole_board_holds, costs, plan)
-    }),
-    in_best_plan("all cores hold what no count does", |costs, plan, work| {
-        best_plan_by(fits::whole_board_holds, costs, plan, work)
-    }),
-    in_greedy_plan(
-        "all cores hold what no count does",
-        |costs, grouping, plan| greedy_plan_by(fits::whole_board_holds, costs, grouping, plan),
-    ),
-    in_judge("memory is not asked", |costs, plan| {
-        judge_by(fits::ignored, costs, plan)
-    }),
-    in_best_plan("memory is not asked", |costs, plan, work| {
-        best_plan_by(fits::ignored, costs, plan, work)
-    }),
-    in_greedy_plan("memory is not asked", |costs, grouping, plan| {
-        greedy_plan_by(fits::ignored, costs, grouping, plan)
     }),
 ];
 

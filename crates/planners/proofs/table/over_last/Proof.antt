@@ -2,13 +2,13 @@
 -- later last task too, and beyond its reach it breaks one at all cores, so the least so far is the whole.
 use Prim.Native.Nat.{_+_, _-_, _≤_}
 use native.Mathlib.Omega.{arith}
-use mathlib.Core.Path.{_≡_, sym, _∙_, ap}
+use mathlib.Core.Path.{_≡_, sym, _∙_}
 use mathlib.Core.Bool.{true}
 use borrow.Author.Needs.{needs}
 use borrow.Author.Tests.{not-true, not-false}
 use Rattle.modules.specs.Model.{chainOf}
-use Rattle.modules.specs.Rules.{shares, moduleRules, stillKept}
-use Rattle.modules.proofs.Laws.{shares-none, shares-more, rules-none, rules-shares, rules-longer, reach-inside}
+use Rattle.modules.specs.Rules.{shares, moduleRules}
+use Rattle.modules.proofs.Laws.{shares-none, shares-more, rules-none, rules-shares, reach-inside}
 use Rattle.search.specs.Least.{least}
 use Rattle.search.specs.Plan.{cap}
 use Rattle.search.specs.Weight.{overNext}
@@ -17,7 +17,7 @@ use Rattle.search.specs.Flat.{readTable}
 use Rattle.search.proofs.Least.{least-more}
 use Rattle.search.proofs.Fill.{last-start}
 use Rattle.planners.specs.Search.{problem, Reached}
-use Rattle.planners.proofs.Cells.{chain-cap, least-most, last-stop, last-beyond}
+use Rattle.planners.proofs.Cells.{chain-cap, least-most, kept-longer, last-stop, last-beyond}
 use Rattle.planners.proofs.table.over_last.Statement.{statement}
 use Rattle.planners.proofs.table.over_last.Tie as tie
 
@@ -68,9 +68,7 @@ returns c =
     let o = c .before .before .before .before in
     let a = o .before .before .before .before .args in
     let k = chainOf (a .costs .now) (a .board) in
-    let whole = shares-more k (a .t + 1) (o .loop .l) (a .q) (omega arith) (o .loop .inv .0) in
-    let asked = c .before .still-kept .ensures ∙ ap (stillKept k (o .loop .l) (a .q)) (omega (arith, o .loop .inv .4, c .before .before .share .ensures .0))
-    ∙ rules-longer k (a .t + 1) (o .loop .l) (a .q) (o .loop .inv .0) (o .loop .inv .2) in
+    let asked = kept-longer k (a .t) (o .loop .l) (a .q) (o .loop .sum) _ (o .loop .inv .0) (o .loop .inv .4) (c .before .before .share .ensures .0) (o .loop .inv .2) (c .before .still-kept .ensures) in
     let unfit = sym asked ∙ not-true _ (c .if1 .taken) in
     let inside = reach-inside k (a .t + 1) in
     let e = last-stop k (a .n) (a .s) (a .t) (a .q) (readTable (problem k) (a .work .now)) (o .loop .l) (o .loop .m) (omega arith) unfit (o .loop .inv .3) in
@@ -82,9 +80,7 @@ over-next-requires c κs =
     let b = o .before .before .before .before in
     let k = chainOf (b .args .costs .now) (b .args .board) in
     let reached : Reached k (b .args .t) (o .loop .l) = record { later = omega arith; within = omega arith } in
-    let whole = shares-more k (b .args .t + 1) (o .loop .l) (b .args .q) (omega arith) (o .loop .inv .0) in
-    let asked = c .before .still-kept .ensures ∙ ap (stillKept k (o .loop .l) (b .args .q)) (omega (arith, o .loop .inv .4, c .before .before .share .ensures .0))
-    ∙ rules-longer k (b .args .t + 1) (o .loop .l) (b .args .q) (o .loop .inv .0) (o .loop .inv .2) in
+    let asked = kept-longer k (b .args .t) (o .loop .l) (b .args .q) (o .loop .sum) _ (o .loop .inv .0) (o .loop .inv .4) (c .before .before .share .ensures .0) (o .loop .inv .2) (c .before .still-kept .ensures) in
     (b .pre .0, b .pre .1, reached, sym asked ∙ not-false _ (c .if1 .left))
 
 lesser-requires : tie.Need-lesser-requires Inv-loop μ-loop
@@ -104,8 +100,7 @@ loop-again c =
     let k = chainOf (a .costs .now) (a .board) in
     let e : o .loop .l + 1 - 1 ≡ o .loop .l = omega arith in
     let whole = shares-more k (a .t + 1) (o .loop .l) (a .q) (omega arith) (o .loop .inv .0) in
-    let asked = x .still-kept .ensures ∙ ap (stillKept k (o .loop .l) (a .q)) (omega (arith, o .loop .inv .4, x .before .share .ensures .0))
-    ∙ rules-longer k (a .t + 1) (o .loop .l) (a .q) (o .loop .inv .0) (o .loop .inv .2) in
+    let asked = kept-longer k (a .t) (o .loop .l) (a .q) (o .loop .sum) _ (o .loop .inv .0) (o .loop .inv .4) (x .before .share .ensures .0) (o .loop .inv .2) (x .still-kept .ensures) in
     let kept = sym asked ∙ not-false _ (c .before .before .if1 .left) in
     let inside = reach-inside k (a .t + 1) in (
       omega arith,
