@@ -9,10 +9,10 @@
  *  - an empty slice has count 0; its pointer is not looked at and may be any.
  *
  * What a target without an operating system has to offer, measured on x86-64:
- *  - some 20 KB for code; the library has no data and no bss;
+ *  - some 23 KB for code; the library has no data and no bss;
  *  - `memset`, the only symbol that it needs from outside;
- *  - beside what is lent, stack for a call: some 600 bytes to judge, 1,500 for the greedy plan, 1,100 for the best, 300 to fill in
- *    costs or for a reach;
+ *  - beside what is lent, stack for a call: some 700 bytes to judge, 800 for a single-block time, 1,500 for the greedy plan, 1,400 for
+ *    the best, 300 to fill in costs or for a reach;
  *  - SSE registers, and the red zone of the System V ABI: interrupts keep off the 128 bytes below the stack pointer.
  * Nothing is kept between calls, so calls from several threads, each on its own buffers, are safe. Held by tests/footprint
  * (the first two; code and constants to 24 KiB), tests/stack.c (a call to 2 KiB of stack) and tests/threads.c (two threads).
@@ -53,18 +53,18 @@ struct zombreki_answer zombreki_judge(const uint8_t *costs, size_t costs_len, co
 struct zombreki_answer zombreki_greedy_plan(const uint8_t *costs, size_t costs_len, uint16_t grouping, uint8_t *plan,
                                             size_t plan_len);
 
-/* Fills in the best plan: least bottleneck, then fewest cores, then module order. A refusal leaves the plan bytes as they
- * came; bytes after the 48th are never written. Afterwards the whole work area is zero, or untouched where the refusal
- * came before the search (any but 9). */
+/* Fills in the best plan: least bottleneck, then fewest cores, then least single-block time, then module order. A refusal leaves
+ * the plan bytes as they came; bytes after the 48th are never written. Afterwards the whole work area is zero, or untouched where
+ * the refusal came before the search (any but 9). */
 struct zombreki_answer zombreki_best_plan(const uint8_t *costs, size_t costs_len, uint8_t *plan, size_t plan_len,
                                           uint32_t *work, size_t work_len);
 
 /* What a service that only fills an output answers: how many bytes it has filled in, or a refusal's number and place. For a reach the
- * count is the reach. */
+ * count is the reach, for a single-block time the time. */
 struct zombreki_filled {
     uint32_t refusal; /* 0, or the number of the refusal */
-    uint32_t place;   /* the record at fault, counted from 1; 0 where none is named */
-    uint32_t count;   /* the bytes filled in, or the reach; 0 in a refusal */
+    uint32_t place;   /* the record or module at fault, counted from 1; 0 where none is named */
+    uint32_t count;   /* the bytes filled in, the reach or the time; 0 in a refusal */
 };
 
 /* Fills in all cost records of a board from laws for its costs. `head` is the first part of a cost file, the records of kinds 1 and 2.
@@ -83,6 +83,10 @@ struct zombreki_filled zombreki_fill_costs(const uint8_t *head, size_t head_len,
  * in one copy, can hold; 0 if there is none, and 0 if `first` is no task of the chain. Exactly the modules that end within the reach of
  * their first task can be held so. Core limits and copies don't enter it. Refusals: 1 to 6, on the costs. */
 struct zombreki_filled zombreki_reach(const uint8_t *costs, size_t costs_len, uint8_t first);
+
+/* The single-block time of a plan, in ticks: each task's execution and each transfer, within a module or between two, once, at the plan's
+ * cores. Copies don't enter it. At most 23,000,000. Refusals: those of zombreki_judge, with their places. */
+struct zombreki_filled zombreki_block_time(const uint8_t *costs, size_t costs_len, const uint8_t *plan, size_t plan_len);
 
 #ifdef __cplusplus
 }

@@ -281,6 +281,56 @@ static void plans_by_shares(const uint8_t *costs, size_t length)
     expect("reach, capacity 51", fills(zombreki_reach(narrow, length, 1), 0, 0, 2));
 }
 
+/* Document 02, M-104: each execution and each transfer once, at the cores of one copy. Byte 19 is the limit of task 2, whose
+ * record is the third. What is lent is only read. */
+static void times_blocks(const uint8_t *costs, size_t length)
+{
+    uint8_t changed[248];
+    uint8_t plan[52] = {1, 2, 2, 2};
+    uint8_t held[52];
+    memset(plan + 48, 255, 4);
+    memcpy(held, plan, sizeof held);
+    memcpy(changed, costs, sizeof changed);
+    expect("time, 7 + 1 + 10", fills(zombreki_block_time(changed, length, plan, sizeof plan), 0, 0, 18));
+    expect("time: plan as lent", memcmp(plan, held, sizeof held) == 0);
+    expect("time: costs as lent", memcmp(changed, costs, sizeof changed) == 0);
+    plan[2] = 1;
+    expect("time, one copy", fills(zombreki_block_time(costs, length, plan, 48), 0, 0, 18));
+    plan[3] = 4;
+    expect("time, 4 + 1 + 6", fills(zombreki_block_time(costs, length, plan, 48), 0, 0, 11));
+    memcpy(plan, (uint8_t[]){1, 1, 2, 1, 2, 2, 1, 2}, 8);
+    expect("time, 12 + 2 + 10", fills(zombreki_block_time(costs, length, plan, 48), 0, 0, 24));
+    expect("time, short", fills(zombreki_block_time(costs, length, plan, 47), 7, 0, 0));
+    plan[7] = 3;
+    expect("time, cores", fills(zombreki_block_time(costs, length, plan, 48), 15, 0, 0));
+    changed[19] = 2;
+    expect("time, limit", fills(zombreki_block_time(changed, length, plan, 48), 16, 2, 0));
+    changed[19] = 33;
+    expect("time, limit above 32", fills(zombreki_block_time(changed, length, plan, 48), 6, 3, 0));
+    expect("time, a record short", fills(zombreki_block_time(costs, length - 8, plan, 48), 4, 0, 0));
+    expect("time, none", fills(zombreki_block_time(NULL, 0, NULL, 0), 1, 0, 0));
+}
+
+/* Task 1 is not replicable, byte 10, and a core holds task 2, byte 4. Then 1 1 1 2, 2 2 2 1 has the bottleneck 22 / 2 and
+ * 1 2 1 4 has 11, both on four cores, and no plan has a lesser one. The first in module order takes 7 + 2 + 20, the other
+ * 4 + 1 + 6. */
+static void plans_by_time(const uint8_t *costs, size_t length)
+{
+    static uint32_t work[ZOMBREKI_WORK_WORDS];
+    uint8_t changed[248];
+    uint8_t plan[52] = {1, 1, 1, 2, 2, 2, 2, 1};
+    memcpy(changed, costs, sizeof changed);
+    changed[4] = 150;
+    changed[10] = 0;
+    expect("judge, 22 / 2", answers(zombreki_judge(changed, length, plan, 48), (uint32_t[]){0, 0, 2, 4, 2, 22, 2}));
+    expect("time, 7 + 2 + 20", fills(zombreki_block_time(changed, length, plan, 48), 0, 0, 29));
+    memset(plan, 255, sizeof plan);
+    expect("best, by time", answers(zombreki_best_plan(changed, length, plan, sizeof plan, work, ZOMBREKI_WORK_WORDS),
+                                    (uint32_t[]){0, 0, 1, 4, 1, 11, 1}));
+    expect("best, by time: plan", holds(plan, (uint8_t[]){1, 2, 1, 4}, 4));
+    expect("best, by time: time", fills(zombreki_block_time(changed, length, plan, sizeof plan), 0, 0, 11));
+}
+
 int main(int argc, char **argv)
 {
     uint8_t costs[249];
@@ -302,6 +352,8 @@ int main(int argc, char **argv)
     finds_reaches(costs, length);
     judges_shares(costs, length);
     plans_by_shares(costs, length);
+    times_blocks(costs, length);
+    plans_by_time(costs, length);
     if (failures)
         return 1;
     puts("calls: ok");

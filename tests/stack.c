@@ -2,9 +2,9 @@
  * byte that is not as painted says how deep it went. What a function that does nothing takes on such a stack is subtracted, so
  * what counts is the call with its arguments and its answer, and all that is called from there.
  *
- * `stack FILE..` plans and judges each of these files of cost records, which have plans and two tasks at least, fills in as many
- * records from its first part and laws, and finds the reach of each of its tasks. Prints a line for each service with the most
- * that it took; prints what is wrong and ends with 1. Stacks grow downwards here. */
+ * `stack FILE..` plans and judges each of these files of cost records, which have plans and two tasks at least, times the plans,
+ * fills in as many records from its first part and laws, and finds the reach of each of its tasks. Prints a line for each service
+ * with the most that it took; prints what is wrong and ends with 1. Stacks grow downwards here. */
 #define _XOPEN_SOURCE 600
 #include <stdio.h>
 #include <string.h>
@@ -24,7 +24,7 @@ static uint32_t work[ZOMBREKI_WORK_WORDS];
 static struct zombreki_answer answer;
 static struct laws laws;
 static uint8_t out[LARGEST];
-static struct zombreki_filled filled, reached;
+static struct zombreki_filled filled, reached, timed;
 static uint8_t first;
 static int failures;
 
@@ -57,6 +57,11 @@ static void call_reach(void)
     reached = zombreki_reach(costs.bytes, costs.length, first);
 }
 
+static void call_time(void)
+{
+    timed = zombreki_block_time(costs.bytes, costs.length, plan, sizeof plan);
+}
+
 /* A service, and the most bytes that a call of it took. */
 struct service {
     const char *name;
@@ -68,6 +73,7 @@ static struct service greedy = {"zombreki_greedy_plan", call_greedy, 0};
 static struct service best = {"zombreki_best_plan", call_best, 0};
 static struct service fill = {"zombreki_fill_costs", call_fill, 0};
 static struct service reach = {"zombreki_reach", call_reach, 0};
+static struct service block_time = {"zombreki_block_time", call_time, 0};
 
 /* The bytes from the top of a stack in this paint down to the lowest that the call changed; all of them if it did not run. */
 static size_t depth_in(uint8_t paint, void (*call)(void))
@@ -114,7 +120,8 @@ static void expect(const struct service *service, const char *what, int holds)
     }
 }
 
-/* The service fills in a plan, and Judge passes it with the same figures. */
+/* The service fills in a plan, Judge passes it with the same figures, and a block takes at least as long as in its slowest
+ * module. */
 static void plans(struct service *service)
 {
     struct zombreki_answer planned;
@@ -124,6 +131,8 @@ static void plans(struct service *service)
     expect(service, "no plan", planned.refusal == 0 && planned.modules > 0);
     measure(&judge);
     expect(service, "Judge gives other figures", memcmp(&answer, &planned, sizeof answer) == 0);
+    measure(&block_time);
+    expect(&block_time, "too little time", timed.refusal == 0 && timed.count >= planned.response);
 }
 
 /* As many bytes are filled in as the file has, whose first part says the size. */
@@ -172,5 +181,6 @@ int main(int argc, char **argv)
     bounded(&best);
     bounded(&fill);
     bounded(&reach);
+    bounded(&block_time);
     return failures != 0;
 }

@@ -1,7 +1,8 @@
 /* Nothing is kept between calls. `threads FILE FILE` asks the services about each of two files of cost records that have
- * plans, the reach of task 1 included, and to fill in as many records from its first part and laws; then about the first again,
- * then about both at once, a thread to a file with buffers of its own: answers, plan bytes, work area and records filled in are
- * always those of the first time. Prints what is wrong and ends with 1, or prints `threads: ok`. */
+ * plans, the reach of task 1 and a plan's single-block time included, and to fill in as many records from its first part and
+ * laws; then about the first again, then about both at once, a thread to a file with buffers of its own: answers, plan bytes,
+ * work area and records filled in are always those of the first time. Prints what is wrong and ends with 1, or prints
+ * `threads: ok`. */
 #include <pthread.h>
 #include <stdatomic.h>
 #include <string.h>
@@ -15,7 +16,7 @@
 /* All that the services give for a file. */
 struct given {
     struct zombreki_answer greedy, best, judge;
-    struct zombreki_filled filled, reached;
+    struct zombreki_filled filled, reached, timed;
     uint8_t greedy_plan[ZOMBREKI_PLAN_BYTES], best_plan[ZOMBREKI_PLAN_BYTES], out[LARGEST];
     uint32_t work[ZOMBREKI_WORK_WORDS];
 };
@@ -29,7 +30,7 @@ static struct asked {
 
 static atomic_int unfinished = 2;
 
-/* The plan that is judged is the greedy one, whose first module is task 1. */
+/* The plan that is judged and timed is the greedy one, whose first module is task 1. */
 static void ask(struct asked *file)
 {
     const struct costs *costs = &file->costs;
@@ -41,6 +42,7 @@ static void ask(struct asked *file)
     now->judge = zombreki_judge(costs->bytes, costs->length, now->greedy_plan, ZOMBREKI_PLAN_BYTES);
     now->filled = zombreki_fill_costs(costs->bytes, first_part(costs), file->laws.bytes, file->laws.length, now->out, LARGEST);
     now->reached = zombreki_reach(costs->bytes, costs->length, 1);
+    now->timed = zombreki_block_time(costs->bytes, costs->length, now->greedy_plan, ZOMBREKI_PLAN_BYTES);
     file->differs |= memcmp(&file->first, now, sizeof *now) != 0;
 }
 
@@ -72,7 +74,7 @@ int main(int argc, char **argv)
         files[i].first = files[i].now;
         files[i].differs = 0;
         if (files[i].first.greedy.refusal || files[i].first.best.refusal || files[i].first.judge.refusal ||
-            files[i].first.filled.refusal || files[i].first.reached.refusal)
+            files[i].first.filled.refusal || files[i].first.reached.refusal || files[i].first.timed.refusal)
             return ended("a service refused a file", 1);
     }
     ask(&files[0]);

@@ -24,6 +24,17 @@ pub struct Filled {
     pub count: u32,
 }
 
+impl Filled {
+    /// No refusal, but so many bytes, or this number.
+    pub fn counted(count: u32) -> Filled {
+        Filled {
+            refusal: 0,
+            place: 0,
+            count,
+        }
+    }
+}
+
 /// A refusal by its number in document 01 or 02; the place is 0 unless a document names one.
 #[derive(Clone, Copy, Debug, PartialEq, Eq)]
 pub struct Refusal {
@@ -62,7 +73,7 @@ impl From<Refusal> for Filled {
     }
 }
 
-/// The answer of a service that found figures or had a reason to refuse.
-pub fn answer(result: Result<Answer, Refusal>) -> Answer {
-    result.unwrap_or_else(Answer::from)
+/// The answer of a service that found what was asked for or had a reason to refuse.
+pub fn answer<T: From<Refusal>>(result: Result<T, Refusal>) -> T {
+    result.unwrap_or_else(T::from)
 }

@@ -38,9 +38,13 @@ pub enum Kind {
     /// Along one plan, the shares of a module are just the capacity or a KiB more; or a core has few KiB, often fewer than there
     /// are tasks with a need; or needs are the greatest. Times are the same at all counts of cores.
     Shares,
+    /// Memory asks for a core for each task, however they are split; one task takes more than all others, or it is the bottleneck
+    /// beside two that have copies or cores. In most files several plans have equal bottlenecks and cores, and their single-block
+    /// times differ.
+    BlockTimes,
 }
 
-pub const KINDS: [Kind; 13] = [
+pub const KINDS: [Kind; 14] = [
     Kind::Random,
     Kind::Ties,
     Kind::Zeros,
@@ -54,6 +58,7 @@ pub const KINDS: [Kind; 13] = [
     Kind::TightLimits,
     Kind::Reaches,
     Kind::Shares,
+    Kind::BlockTimes,
 ];
 
 /// A file with what it was made from.
@@ -70,11 +75,13 @@ impl Case {
     }
 }
 
-/// A file small enough for trying all plans; the seed fixes it, and each thirteen seeds in turn cover all kinds.
+/// A file small enough for trying all plans; the seed fixes it, and each fourteen seeds in turn cover all kinds.
 pub fn small(seed: u64) -> Case {
     let mut random = Random::new(seed);
-    let (tasks, cores) = small_size(&mut random);
     let kind = KINDS[(seed % KINDS.len() as u64) as usize];
+    // fewer tasks can hardly be split in several ways that are equally good
+    let least = if kind == Kind::BlockTimes { 3 } else { 1 };
+    let (tasks, cores) = small_size(least, &mut random);
     let costs = costs::write(&chain(kind, tasks, cores, &mut random));
     Case { seed, kind, costs }
 }
@@ -91,14 +98,14 @@ pub fn sized(kind: Kind, tasks: usize, cores: usize, seed: u64) -> Case {
     Case { seed, kind, costs }
 }
 
-/// Mostly a few tasks and cores; now and then the most tasks or the most cores that trying all plans can bear.
-fn small_size(random: &mut Random) -> (usize, usize) {
+/// Mostly a few tasks and cores, so many at least; now and then the most tasks or the most cores that trying all plans can bear.
+fn small_size(least: usize, random: &mut Random) -> (usize, usize) {
     if random.once_in(100) {
         return random.pick(&[(12, 6), (9, 7), (7, 8), (5, 10), (3, 16), (2, 32), (1, 32)]);
     }
-    let tasks = random.within(1, 5);
+    let tasks = random.within(least, 5);
     let most_cores = [24, 16, 10, 8, 7][tasks - 1];
-    (tasks, random.within(1, most_cores))
+    (tasks, random.within(least, most_cores))
 }
 
 fn chain(kind: Kind, tasks: usize, cores: usize, random: &mut Random) -> Chain {
@@ -109,6 +116,7 @@ fn chain(kind: Kind, tasks: usize, cores: usize, random: &mut Random) -> Chain {
         }
         Kind::Hidden => times::set_hidden(&mut chain, random),
         Kind::Shares => times::set_even(&mut chain, random),
+        Kind::BlockTimes => times::set_equal(&mut chain, random),
         _ => times::set_drawn(&mut chain, kind, random),
     }
     memory::set(&mut chain, kind, random);
@@ -117,7 +125,8 @@ fn chain(kind: Kind, tasks: usize, cores: usize, random: &mut Random) -> Chain {
     chain
 }
 
-/// Half of the tasks are replicable where cores are to count more than copies; else most of them or all.
+/// Half of the tasks are replicable where cores are to count more than copies; else most of them or all that have not been marked
+/// before.
 fn set_flags(chain: &mut Chain, kind: Kind, random: &mut Random) {
     if matches!(kind, Kind::NotReplicable | Kind::Limits) {
         for flag in &mut chain.flags {
@@ -126,7 +135,7 @@ fn set_flags(chain: &mut Chain, kind: Kind, random: &mut Random) {
         chain.flags[random.below(chain.tasks)] = false;
     } else if random.once_in(2) {
         for flag in &mut chain.flags {
-            *flag = !random.once_in(8);
+            *flag &= !random.once_in(8);
         }
     }
 }

@@ -13,16 +13,26 @@ use crate::services::{Planner, Services};
 
 /// Two planners on the same costs; what the expected one answers and fills in is due from the other.
 pub struct Both<'a> {
-    pub expected: Box<dyn Planner + 'a>,
-    pub found: Box<dyn Planner + 'a>,
+    expected: Box<dyn Planner + 'a>,
+    found: Box<dyn Planner + 'a>,
+    costs: &'a [u8],
+    /// The costs as they were before any call.
+    before: Vec<u8>,
 }
 
 impl<'a> Both<'a> {
     /// Two providers on these bytes.
     pub fn on(expected: &Services, found: &Services, costs: &'a [u8]) -> Both<'a> {
+        Both::with(expected.on(costs), found, costs)
+    }
+
+    /// Any planner, and a provider on these bytes.
+    pub fn with(expected: impl Planner + 'a, found: &Services, costs: &'a [u8]) -> Both<'a> {
         Both {
-            expected: Box::new(expected.on(costs)),
+            expected: Box::new(expected),
             found: Box::new(found.on(costs)),
+            costs,
+            before: costs.to_vec(),
         }
     }
 }
@@ -197,6 +207,29 @@ pub fn reach(both: &Both, first: u8) -> Result<Filled, Difference> {
     let name = || format!("answer on the first task {first}");
     expect_same_parts(parts, reached, found, name)?;
     Ok(reached)
+}
+
+/// The single-block time of whatever plan bytes, which stay as they are; the answer of both. A difference names the first part of
+/// the answer in which it shows.
+pub fn block_time(both: &Both, plan: &[u8]) -> Result<Filled, Difference> {
+    let found_plan = plan.to_vec();
+    let timed = both.expected.block_time(plan);
+    let found = both.found.block_time(&found_plan);
+    let parts = [
+        "block time: refusal",
+        "block time: place",
+        "block time: count",
+    ];
+    let name = |what: &str| format!("{what} on the plan {plan:?}");
+    expect_same_parts(parts, timed, found, || name("answer"))?;
+    expect_same("block time", plan, &found_plan, || name("bytes"))?;
+    Ok(timed)
+}
+
+/// No call has changed the costs.
+pub fn costs_as_lent(both: &Both) -> Result<(), Difference> {
+    let name = || "costs, by some service".to_string();
+    expect_same("costs", &both.before, both.costs, name)
 }
 
 /// Keeps the file and fails with the seed, the file's path and the difference.

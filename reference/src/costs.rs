@@ -31,6 +31,12 @@ pub struct Chain {
 
 /// Tasks and cores count from 1.
 impl Chain {
+    /// The executions, the internal and the external transfers, where there are no laws.
+    pub fn times_mut(&mut self) -> [&mut Vec<u32>; 3] {
+        let (executions, internals) = (&mut self.executions, &mut self.internals);
+        [executions, internals, &mut self.externals]
+    }
+
     pub fn need(&self, task: usize) -> u32 {
         self.needs[task - 1]
     }

@@ -1,4 +1,6 @@
-//! Document 01's Best plan by trying all plans, with refusals 1 to 6, 7, 8, 9.
+//! Document 01's Best plan, with the ties of document 02, M-104, by trying all plans; with refusals 1 to 6, 7, 8, 9.
+
+use std::cmp::Ordering;
 
 use crate::answer::{Answer, Refusal, answer};
 use crate::costs::{self, Chain};
@@ -6,8 +8,8 @@ use crate::plan::{self, Load, Module, PLAN_BYTES, RULES, Rules};
 
 pub const WORK_WORDS: usize = 16_384;
 
-/// Fills in the plan of least bottleneck, then fewest cores, then first in module order. The lent words are all zero after a
-/// plan and after refusal 9, and untouched after any other refusal.
+/// Fills in the plan of least bottleneck, then fewest cores, then least single-block time, then first in module order. The lent
+/// words are all zero after a plan and after refusal 9, and untouched after any other refusal.
 pub fn best_plan(costs: &[u8], plan: &mut [u8], work: &mut [u32]) -> Answer {
     best_plan_by(search, costs, plan, work)
 }
@@ -44,29 +46,39 @@ fn planned(
     Ok(plan::figures(chain, &best))
 }
 
-/// The first plan in module order of those of fewest cores of those of least bottleneck that keep the rules.
-pub fn search(chain: &Chain) -> Option<Vec<Module>> {
-    search_by(RULES, plan::bottleneck, chain)
+/// What plans are compared by: their bottlenecks, then their cores, then their single-block times.
+#[derive(Clone, Copy)]
+pub struct Order {
+    pub bottleneck: fn(&Chain, &[Module]) -> Load,
+    pub time: fn(&Chain, &[Module]) -> u32,
 }
 
-/// The search with any tests of memory and of limits, and any way to compute a plan's bottleneck.
-pub fn search_by(
-    rules: Rules,
-    bottleneck: fn(&Chain, &[Module]) -> Load,
-    chain: &Chain,
-) -> Option<Vec<Module>> {
+/// The right one.
+pub const ORDER: Order = Order {
+    bottleneck: plan::bottleneck,
+    time: plan::block_time,
+};
+
+/// The first plan in module order of those of least time of those of fewest cores of those of least bottleneck that keep the
+/// rules.
+pub fn search(chain: &Chain) -> Option<Vec<Module>> {
+    search_by(RULES, ORDER, chain)
+}
+
+/// The search with any tests of memory and of limits, and any way to compute a plan's bottleneck and time.
+pub fn search_by(rules: Rules, order: Order, chain: &Chain) -> Option<Vec<Module>> {
     let mut best: Option<(Load, usize, Vec<Module>)> = None;
     each_plan(chain, &mut |rival| {
         if !plan::keeps_rules_by(rules, chain, rival) {
             return;
         }
-        let (load, cores) = (bottleneck(chain, rival), plan::cores(rival));
-        let comes_before = match &best {
-            None => true,
-            Some((least, fewest, _)) => {
-                load.is_less(*least) || (!least.is_less(load) && cores < *fewest)
+        let (load, cores) = ((order.bottleneck)(chain, rival), plan::cores(rival));
+        let comes_before = best.as_ref().is_none_or(|(least, fewest, best)| {
+            match load.compare(*least).then(cores.cmp(fewest)) {
+                Ordering::Equal => (order.time)(chain, rival) < (order.time)(chain, best),
+                differ => differ.is_lt(),
             }
-        };
+        });
         if comes_before {
             best = Some((load, cores, rival.to_vec()));
         }

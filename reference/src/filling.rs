@@ -30,11 +30,7 @@ fn filled(head: &[u8], laws: &[u8], out: &mut [u8]) -> Result<Filled, Refusal> {
     for cost in costs {
         at += cost.put(cores, &mut out[at..]);
     }
-    Ok(Filled {
-        refusal: 0,
-        place: 0,
-        count: bytes as u32,
-    })
+    Ok(Filled::counted(bytes as u32))
 }
 
 /// The value of a cost record.

@@ -22,6 +22,12 @@ pub fn judge_on(chain: &Chain, plan: &[u8]) -> Answer {
 }
 
 fn figures_or_refusal(rules: Rules, chain: &Chain, plan: &[u8]) -> Result<Answer, Refusal> {
+    let modules = passed(rules, chain, plan)?;
+    Ok(plan::figures(chain, &modules))
+}
+
+/// The modules of the plan in the first 48 bytes, or refusal 7, 12, 13, 14, 16 or 15.
+pub fn passed(rules: Rules, chain: &Chain, plan: &[u8]) -> Result<Vec<Module>, Refusal> {
     let Some(bytes) = plan.first_chunk::<PLAN_BYTES>() else {
         return Err(Refusal::new(7));
     };
@@ -33,7 +39,7 @@ fn figures_or_refusal(rules: Rules, chain: &Chain, plan: &[u8]) -> Result<Answer
     if plan::cores(&modules) > chain.cores {
         return Err(Refusal::new(15));
     }
-    Ok(plan::figures(chain, &modules))
+    Ok(modules)
 }
 
 /// The modules up to the one that ends at task k, or refusal 12 at the first record at fault.

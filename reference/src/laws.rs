@@ -201,11 +201,7 @@ pub fn fill_costs_by(
         Err(refusal) => refusal.into(),
         Ok(bytes) => {
             out[..bytes.len()].copy_from_slice(&bytes);
-            Filled {
-                refusal: 0,
-                place: 0,
-                count: bytes.len() as u32,
-            }
+            Filled::counted(bytes.len() as u32)
         }
     }
 }

@@ -35,6 +35,12 @@ unsafe extern "C" {
         out_len: usize,
     ) -> Filled;
     fn zombreki_reach(costs: *const u8, costs_len: usize, first: u8) -> Filled;
+    fn zombreki_block_time(
+        costs: *const u8,
+        costs_len: usize,
+        plan: *const u8,
+        plan_len: usize,
+    ) -> Filled;
 }
 
 pub fn judge(costs: &[u8], plan: &[u8]) -> Answer {
@@ -88,6 +94,11 @@ pub fn reach(costs: &[u8], first: u8) -> Filled {
     unsafe { zombreki_reach(costs.as_ptr(), costs.len(), first) }
 }
 
+pub fn block_time(costs: &[u8], plan: &[u8]) -> Filled {
+    // SAFETY: pointers and lengths are those of live slices, which may be read.
+    unsafe { zombreki_block_time(costs.as_ptr(), costs.len(), plan.as_ptr(), plan.len()) }
+}
+
 #[cfg(test)]
 mod tests {
     use super::*;
@@ -117,9 +128,10 @@ mod tests {
                 zombreki_fill_costs(null(), 0, null(), 0, null_mut(), 0),
                 zombreki_reach(null(), 0, 0),
                 zombreki_reach(null(), 0, 1),
+                zombreki_block_time(null(), 0, null(), 0),
             ]
         };
-        assert_eq!(filled, [Refusal::new(1).into(); 3]);
+        assert_eq!(filled, [Refusal::new(1).into(); 4]);
     }
 
     #[test]
@@ -131,6 +143,7 @@ mod tests {
         ];
         let costs = costs.as_flattened();
         assert_eq!(judge(costs, &[]).refusal, 7);
+        assert_eq!(block_time(costs, &[]), Refusal::new(7).into());
         assert_eq!(greedy_plan(costs, 0, &mut []).refusal, 7);
         assert_eq!(best_plan(costs, &mut [], &mut []).refusal, 7);
         assert_eq!(best_plan(costs, &mut [0; 48], &mut []).refusal, 8);
@@ -148,10 +161,7 @@ mod tests {
             ..constant(2, 1, 5)
         });
         let reached = |first| reach(&costs, first);
-        let due = |count| Filled {
-            count,
-            ..Filled::default()
-        };
-        assert_eq!([0, 1, 2, 3, 255].map(reached), [0, 1, 2, 0, 0].map(due));
+        let due = [0, 1, 2, 0, 0].map(Filled::counted);
+        assert_eq!([0, 1, 2, 3, 255].map(reached), due);
     }
 }

@@ -1,5 +1,7 @@
-//! Document 01, "The chain and the board" and "Plan bytes", with the limits of document 02, M-100, and its test of memory,
-//! M-103: modules, rules, responses, figures and the 48 bytes.
+//! Document 01, "The chain and the board" and "Plan bytes", with the limits of document 02, M-100, its test of memory, M-103,
+//! and its single-block time, M-104: modules, rules, responses, figures and the 48 bytes.
+
+use std::cmp::Ordering;
 
 use crate::answer::{Answer, Refusal};
 use crate::costs::{Chain, MOST_TASKS};
@@ -121,10 +123,15 @@ pub struct Load {
 }
 
 impl Load {
+    /// How this fraction compares with the other one, exactly.
+    pub fn compare(self, other: Load) -> Ordering {
+        let this = u64::from(self.response) * u64::from(other.copies);
+        this.cmp(&(u64::from(other.response) * u64::from(self.copies)))
+    }
+
     /// Whether this fraction is less than the other one, exactly.
     pub fn is_less(self, other: Load) -> bool {
-        let this = u64::from(self.response) * u64::from(other.copies);
-        this < u64::from(other.response) * u64::from(self.copies)
+        self.compare(other).is_lt()
     }
 }
 
@@ -152,6 +159,31 @@ pub fn slowest(loads: &[Load]) -> usize {
 pub fn bottleneck(chain: &Chain, plan: &[Module]) -> Load {
     let loads = loads(chain, plan);
     loads[slowest(&loads)]
+}
+
+/// M-104: "That time adds each task's execution and each transfer once, at the plan's cores." Copies do not enter it.
+pub fn block_time(chain: &Chain, plan: &[Module]) -> u32 {
+    let execution = |task| chain.execution(task, module_of(plan, task).cores);
+    let executions = (1..=chain.tasks).map(execution);
+    let transfers = (1..chain.tasks).map(|task| transfer(chain, plan, task));
+    executions.chain(transfers).sum()
+}
+
+/// The transfer from a task to the next one: internal if one module has both, else external.
+pub fn transfer(chain: &Chain, plan: &[Module], task: usize) -> u32 {
+    let (from, to) = (module_of(plan, task), module_of(plan, task + 1));
+    if from == to {
+        chain.internal(task, from.cores)
+    } else {
+        chain.external(task, from.cores, to.cores)
+    }
+}
+
+/// The module that has the task.
+pub fn module_of(plan: &[Module], task: usize) -> Module {
+    let mut modules = plan.iter();
+    let found = modules.find(|module| (module.first..=module.last).contains(&task));
+    *found.expect("the modules cover the tasks")
 }
 
 /// The figures of a plan that keeps the rules.
@@ -190,6 +222,12 @@ pub fn records(plan: &[u8; PLAN_BYTES]) -> Vec<Module> {
     plan.chunks_exact(MODULE_BYTES).map(module).collect()
 }
 
+/// The modules of plan bytes whose unused records are zero and stand last.
+pub fn used(plan: &[u8; PLAN_BYTES]) -> Vec<Module> {
+    let records = records(plan).into_iter();
+    records.take_while(|module| module.cores > 0).collect()
+}
+
 /// Refusal 7 unless the lent bytes have room for a plan.
 pub fn enough_bytes(plan: &[u8]) -> Result<(), Refusal> {
     if plan.len() < PLAN_BYTES {
@@ -201,7 +239,8 @@ pub fn enough_bytes(plan: &[u8]) -> Result<(), Refusal> {
 #[cfg(test)]
 mod tests {
     use super::*;
-    use crate::cases::{constant, worked_example};
+    use crate::cases::{constant, small_of_each, worked_example};
+    use crate::every::each_plan;
 
     /// All tasks of the chain, in one copy of so many cores.
     fn whole(chain: &Chain, cores: usize) -> Module {
@@ -248,6 +287,20 @@ mod tests {
                 let held = whole(&chain, cores).shares(&chain) * cores as u64;
                 assert!(held >= need.into() && held < u64::from(need) + cores as u64);
             }
+        }
+    }
+
+    /// In the responses each external transfer counts twice, for the sender and for the receiver.
+    #[test]
+    fn a_time_is_the_responses_less_each_external_transfer() {
+        for case in small_of_each(20) {
+            let chain = case.chain();
+            each_plan(&chain, &mut |plan| {
+                let places = 0..plan.len();
+                let responses: u32 = places.clone().map(|i| response(&chain, plan, i)).sum();
+                let externals: u32 = places.map(|i| sent(&chain, plan, i)).sum();
+                assert_eq!(block_time(&chain, plan), responses - externals, "{plan:?}");
+            });
         }
     }
 }

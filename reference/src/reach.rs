@@ -1,6 +1,6 @@
 //! Document 02, M-102, "A loop that ends sooner": the reach of a first task, by M-103's test of memory, with refusals 1 to 6.
 
-use crate::answer::Filled;
+use crate::answer::{Filled, answer};
 use crate::costs::{self, Chain};
 use crate::greedy;
 use crate::plan::{Module, RULES, Rule};
@@ -12,10 +12,8 @@ pub fn reach(costs: &[u8], first: u8) -> Filled {
 
 /// The service with any way to find a reach.
 pub fn reach_by(reach_of: impl Fn(&Chain, usize) -> usize, costs: &[u8], first: u8) -> Filled {
-    match costs::read(costs) {
-        Ok(chain) => counted(reach_of(&chain, first.into())),
-        Err(refusal) => refusal.into(),
-    }
+    let read = costs::read(costs);
+    answer(read.map(|chain| counted(reach_of(&chain, first.into()))))
 }
 
 /// The service on a chain in place of the bytes of its costs.
@@ -24,10 +22,7 @@ pub fn reach_on(chain: &Chain, first: u8) -> Filled {
 }
 
 fn counted(reach: usize) -> Filled {
-    Filled {
-        count: reach as u32,
-        ..Filled::default()
-    }
+    Filled::counted(reach as u32)
 }
 
 /// "The last task of its longest module that needs at most P cores, 0 if there is none."

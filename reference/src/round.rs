@@ -1,8 +1,10 @@
 //! All services on one file, accepted or damaged, compared, with a count of what was met.
 
+pub mod dynamic;
 pub mod laws;
 pub mod memory;
 pub mod reaches;
+pub mod times;
 
 use crate::answer::Answer;
 use crate::cases::Case;
@@ -14,7 +16,7 @@ use crate::random::Random;
 use crate::tally::Tally;
 
 /// Best plan; Judge on its plan; the greedy plan with every grouping, and Judge on each; Judge on some random plans, and on some
-/// whose memory just suffices or does not; the reaches.
+/// whose memory just suffices or does not; the single-block time of all that is judged; the reaches. The costs stay as they are.
 pub fn all(both: &Both, case: &Case, tally: &mut Tally) -> Result<(), Difference> {
     let mut random = Random::new(!case.seed);
     let lent = Lent {
@@ -24,16 +26,16 @@ pub fn all(both: &Both, case: &Case, tally: &mut Tally) -> Result<(), Difference
     };
     let (answer, plan) = compare::best_plan(both, lent)?;
     count("best plan", answer, tally);
-    judge_filled(both, answer, &plan)?;
+    judge_filled(both, answer, &plan, tally)?;
     all_groupings(both, case, lent, tally)?;
     for _ in 0..6 {
         let (tasks, cores) = (case.costs[3].into(), case.costs[2].into());
         let plan = damage::random_plan(tasks, cores, &mut random);
-        let answer = compare::judge(both, &plan)?;
-        count("judge", answer, tally);
+        judged(both, &plan, tally)?;
     }
     memory::judged(both, case, &mut random, tally)?;
-    reaches::all(both, case, &mut random, tally)
+    reaches::all(both, case, &mut random, tally)?;
+    compare::costs_as_lent(both)
 }
 
 /// Every grouping that the chain has, then one with each bit that it has not.
@@ -50,14 +52,19 @@ fn all_groupings(
     for grouping in allowed.clone().chain(beyond) {
         let (answer, plan) = compare::greedy_plan(both, grouping, lent)?;
         count("greedy plan", answer, tally);
-        judge_filled(both, answer, &plan)?;
+        judge_filled(both, answer, &plan, tally)?;
     }
     allowed.for_each(|grouping| memory::count_start(&chain, grouping, tally));
     Ok(())
 }
 
 /// Judge answers the figures of whoever filled the plan in.
-fn judge_filled(both: &Both, answer: Answer, plan: &[u8]) -> Result<(), Difference> {
+fn judge_filled(
+    both: &Both,
+    answer: Answer,
+    plan: &[u8],
+    tally: &mut Tally,
+) -> Result<(), Difference> {
     if answer.refusal != 0 {
         return Ok(());
     }
@@ -67,11 +74,20 @@ fn judge_filled(both: &Both, answer: Answer, plan: &[u8]) -> Result<(), Differen
         let service = "judge";
         return Err(Difference { service, what });
     }
+    times::of_judged(both, plan, judged, tally)?;
     Ok(())
 }
 
+/// Judge on any plan bytes, and their single-block time; the answer of Judge, and the time, 0 with a refusal.
+pub fn judged(both: &Both, plan: &[u8], tally: &mut Tally) -> Result<(Answer, u32), Difference> {
+    let answer = compare::judge(both, plan)?;
+    count("judge", answer, tally);
+    let time = times::of_judged(both, plan, answer, tally)?;
+    Ok((answer, time))
+}
+
 /// Each service once on a file that may be damaged; one time in four the buffers are too short as well, which counts only if
-/// the file is accepted.
+/// the file is accepted. The costs stay as they are.
 pub fn damaged(both: &Both, random: &mut Random, tally: &mut Tally) -> Result<(), Difference> {
     let lent = Lent {
         plan: random.pick(&[PLAN_BYTES, PLAN_BYTES, PLAN_BYTES + 3, PLAN_BYTES - 1]),
@@ -85,9 +101,9 @@ pub fn damaged(both: &Both, random: &mut Random, tally: &mut Tally) -> Result<()
     count("greedy plan", answer, tally);
     let mut plan = damage::random_plan(3, 8, random).to_vec();
     plan.resize(lent.plan, 255);
-    let answer = compare::judge(both, &plan)?;
-    count("judge", answer, tally);
-    reaches::damaged(both, random, tally)
+    judged(both, &plan, tally)?;
+    reaches::damaged(both, random, tally)?;
+    compare::costs_as_lent(both)
 }
 
 /// Counts the refusal, or what is particular about the figures.

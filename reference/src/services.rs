@@ -3,7 +3,7 @@
 use crate::answer::{Answer, Filled};
 use crate::costs::Chain;
 use crate::plan::PLAN_BYTES;
-use crate::{every, greedy, judge, laws, library, reach, threshold};
+use crate::{block_time, every, greedy, judge, laws, library, reach, threshold};
 
 /// A provider of document 01's three services, and of document 02's.
 #[derive(Clone, Copy)]
@@ -15,6 +15,8 @@ pub struct Services {
     pub fill_costs: fn(&[u8], &[u8], &mut [u8]) -> Filled,
     /// Costs, first task.
     pub reach: fn(&[u8], u8) -> Filled,
+    /// Costs, plan bytes.
+    pub block_time: fn(&[u8], &[u8]) -> Filled,
 }
 
 /// What the services are to answer; its Best plan tries all plans and is for small files.
@@ -24,6 +26,7 @@ pub const REFERENCE: Services = Services {
     best_plan: every::best_plan,
     fill_costs: laws::fill_costs,
     reach: reach::reach,
+    block_time: block_time::block_time,
 };
 
 /// The same for files of any size, with the threshold search.
@@ -39,6 +42,7 @@ pub const LIBRARY: Services = Services {
     best_plan: library::best_plan,
     fill_costs: library::fill_costs,
     reach: library::reach,
+    block_time: library::block_time,
 };
 
 impl Services {
@@ -50,17 +54,24 @@ impl Services {
 
     /// Whether it finds a plan that keeps the rules.
     pub fn has_plan(self, costs: &[u8]) -> bool {
+        self.best_filled(costs).0.refusal == 0
+    }
+
+    /// What Best plan answers and fills in, where the bytes and words lent are zero and just enough.
+    pub fn best_filled(self, costs: &[u8]) -> (Answer, [u8; PLAN_BYTES]) {
         let (mut plan, mut work) = ([0; PLAN_BYTES], vec![0; every::WORK_WORDS]);
-        (self.best_plan)(costs, &mut plan, &mut work).refusal == 0
+        let answer = (self.best_plan)(costs, &mut plan, &mut work);
+        (answer, plan)
     }
 }
 
-/// The services on costs that are settled: document 01's three, and the reach of a first task.
+/// The services on costs that are settled: document 01's three, the reach of a first task, and the single-block time of a plan.
 pub trait Planner {
     fn judge(&self, plan: &[u8]) -> Answer;
     fn greedy_plan(&self, grouping: u16, plan: &mut [u8]) -> Answer;
     fn best_plan(&self, plan: &mut [u8], work: &mut [u32]) -> Answer;
     fn reach(&self, first: u8) -> Filled;
+    fn block_time(&self, plan: &[u8]) -> Filled;
 }
 
 /// A provider and the bytes of cost records, accepted or not.
@@ -85,6 +96,10 @@ impl Planner for OnBytes<'_> {
     fn reach(&self, first: u8) -> Filled {
         (self.services.reach)(self.costs, first)
     }
+
+    fn block_time(&self, plan: &[u8]) -> Filled {
+        (self.services.block_time)(self.costs, plan)
+    }
 }
 
 /// The second planner without bytes of costs. A chain that has laws is planned from these.
@@ -103,5 +118,9 @@ impl Planner for Chain {
 
     fn reach(&self, first: u8) -> Filled {
         reach::reach_on(self, first)
+    }
+
+    fn block_time(&self, plan: &[u8]) -> Filled {
+        block_time::block_time_on(self, plan)
     }
 }

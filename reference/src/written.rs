@@ -116,7 +116,18 @@ mod tests {
     #[test]
     fn a_right_line_passes() {
         assert_eq!(run(RIGHT), Ok(()));
-        assert_eq!(run("small dock: reach of task 1 => reach 2"), Ok(()));
+        for right in [
+            "small dock: reach of task 1 => reach 2",
+            "small dock: block time of 1 2 2 2 => time 18",
+            "small dock: block time of 1 1 2 1, 2 2 1 2 in 60 bytes => time 24",
+            "small dock: block time of 1 2 2 2 with byte 47 = 1 => refusal 12, place 12",
+            "small dock: block time of 255 everywhere in 47 bytes => refusal 7",
+            "small dock by laws, execution of task 2 by 1 20 0: block time of 1 2 1 3 => time 8",
+            "small dock, capacity = 0: read => refusal 3",
+            "small dock: read => accepted",
+        ] {
+            assert_eq!(run(right), Ok(()), "{right}");
+        }
     }
 
     /// Each number of a right line, changed, is a case that fails.
@@ -140,6 +151,11 @@ mod tests {
             "small dock: reach of task 3 => refusal 5",
             "small dock, capacity = 0: reach of task 1 => reach 0",
             "small dock, flag of task 2 = 2: reach of task 1 => refusal 6, place 2",
+            "small dock: block time of 1 2 2 2 => time 19",
+            "small dock: block time of 1 2 2 2 => refusal 15",
+            "small dock: block time of 1 2 1 1 => refusal 14",
+            "small dock: block time of 1 2 1 1 => time 33",
+            "small dock, capacity = 0: block time of 1 2 2 2 => time 18",
             "every law 0, k = 1, P = 1: fill costs => 32 bytes",
             "every law 0, k = 1, P = 1: fill costs => refusal 19",
             "every law 0, k = 1, P = 1: fill costs => 24 bytes, execution of task 1 = 1",
@@ -199,6 +215,28 @@ mod tests {
             "small dock: judge 1 2 2 2 => reach 2",
             "small dock: read => reach 2",
             "small dock by laws: fill costs => reach 2",
+        ] {
+            assert!(parse(wrong).is_err(), "{wrong}");
+        }
+    }
+
+    #[test]
+    fn times_that_cannot_be_read_are_an_error() {
+        for wrong in [
+            "small dock: block time of => time 18",
+            "small dock: block time 1 2 2 2 => time 18",
+            "small dock: block time of 1 2 2 => time 18",
+            "small dock: block time of 1 2 2 2 into 48 bytes => time 18",
+            "small dock: block time of 1 2 2 2 => 18",
+            "small dock: block time of 1 2 2 2 => time 18, place 1",
+            "small dock: block time of 1 2 2 2 => reach 18",
+            "small dock: block time of 1 2 2 2 => accepted",
+            "small dock: block time of 1 2 2 2 => 1 module, 4 cores, slowest 1, response 18, r 2",
+            "small dock: judge 1 2 2 2 => time 18",
+            "small dock: best plan => time 18",
+            "small dock: reach of task 1 => time 2",
+            "small dock: read => time 18",
+            "small dock by laws: fill costs => time 18",
         ] {
             assert!(parse(wrong).is_err(), "{wrong}");
         }

@@ -6,8 +6,10 @@ use reference::compare::{self, Both, Lent};
 use reference::costs;
 use reference::every::WORK_WORDS;
 use reference::plan::PLAN_BYTES;
+use reference::round;
 use reference::round::laws::full_bytes;
 use reference::services::{LIBRARY, QUICK_REFERENCE, REFERENCE};
+use reference::tally::Tally;
 
 /// Files that end in a plan, in refusal 9 and 11, and in refusals 1 and 6.
 fn files() -> Vec<Case> {
@@ -19,6 +21,7 @@ fn files() -> Vec<Case> {
         Kind::Limits,
         Kind::Reaches,
         Kind::Shares,
+        Kind::BlockTimes,
     ];
     let mut files: Vec<Case> = kinds
         .into_iter()
@@ -34,12 +37,9 @@ fn files() -> Vec<Case> {
         let seed = 0;
         files.push(Case { seed, kind, costs });
     }
-    let refusal = |case: &Case| {
-        let (mut plan, mut work) = ([0; PLAN_BYTES], vec![0; WORK_WORDS]);
-        (REFERENCE.best_plan)(&case.costs, &mut plan, &mut work).refusal
-    };
+    let refusal = |case: &Case| REFERENCE.best_filled(&case.costs).0.refusal;
     let refusals: Vec<u32> = files.iter().map(refusal).collect();
-    assert_eq!(refusals, [0, 0, 9, 0, 0, 9, 0, 0, 6, 1, 1]);
+    assert_eq!(refusals, [0, 0, 9, 0, 0, 9, 0, 0, 0, 6, 1, 1]);
     files
 }
 
@@ -73,17 +73,20 @@ fn every_length() {
     }
 }
 
+/// By Judge and for the single-block time.
 #[test]
-fn judge_reads_48_bytes() {
+fn of_a_plan_48_bytes_are_read() {
     for case in files() {
-        let (mut plan, mut work) = (vec![0; PLAN_BYTES], vec![0; WORK_WORDS]);
-        (REFERENCE.best_plan)(&case.costs, &mut plan, &mut work);
-        let whole = (LIBRARY.judge)(&case.costs, &plan);
+        let mut plan = REFERENCE.best_filled(&case.costs).1.to_vec();
+        let judge = |plan: &[u8]| (LIBRARY.judge)(&case.costs, plan);
+        let block_time = |plan: &[u8]| (LIBRARY.block_time)(&case.costs, plan);
+        let whole = (judge(&plan), block_time(&plan));
         plan.resize(100, 255);
-        assert_eq!((LIBRARY.judge)(&case.costs, &plan), whole);
+        assert_eq!((judge(&plan), block_time(&plan)), whole);
         let both = Both::on(&REFERENCE, &LIBRARY, &case.costs);
         for length in 0..=plan.len() {
-            if let Err(difference) = compare::judge(&both, &plan[..length]) {
+            let result = round::judged(&both, &plan[..length], &mut Tally::default());
+            if let Err(difference) = result {
                 compare::fail(case.seed, &case.costs, &difference);
             }
         }
@@ -111,7 +114,8 @@ fn costs_at_every_address() {
             let costs = &*lent_at(start, &mut longer);
             let both = Both::on(&REFERENCE, &LIBRARY, costs);
             let lent = Lent::enough(start as u64);
-            let result = compare::best_plan(&both, lent).and_then(|_| {
+            let result = compare::best_plan(&both, lent).and_then(|(_, plan)| {
+                compare::block_time(&both, &plan)?;
                 compare::reach(&both, 1)?;
                 compare::reach(&both, 3)
             });

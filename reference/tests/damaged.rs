@@ -1,6 +1,6 @@
 //! Damaged files and damaged plans: the library refuses what the reference refuses, with the same place.
 
-use reference::answer::{Answer, Refusal};
+use reference::answer::Refusal;
 use reference::cases::{self, Case, Kind};
 use reference::compare::{self, Both, Lent};
 use reference::costs::{self, MOST_CORES, RECORD_BYTES};
@@ -43,6 +43,7 @@ fn damaged_files() {
     }
     tally.assert_at_least("reach: a refusal with a place", 6_000);
     tally.assert_at_least("reach: answered", 2_500);
+    tally.assert_at_least("block time: a refusal with a place", 13_000);
 }
 
 /// A work area that is one word short spares the search where the file is accepted after all.
@@ -61,8 +62,9 @@ fn damaged_files_of_the_greatest_size() {
         let both = Both::on(&REFERENCE, &LIBRARY, &costs);
         let result = compare::best_plan(&both, lent).and_then(|_| {
             let plan = damage::random_plan(12, 32, &mut random);
-            compare::judge(&both, &plan)?;
-            round::reaches::damaged(&both, &mut random, &mut Tally::default())
+            let tally = &mut Tally::default();
+            round::judged(&both, &plan, tally)?;
+            round::reaches::damaged(&both, &mut random, tally)
         });
         if let Err(difference) = result {
             compare::fail(seed, &costs, &difference);
@@ -80,7 +82,7 @@ fn every_byte_of_a_file() {
             let seed = i as u64 * 256 + u64::from(value);
             let plan = [1, 2, 1, 2].repeat(RECORDS);
             let both = Both::on(&REFERENCE, &LIBRARY, &changed);
-            let result = compare::judge(&both, &plan)
+            let result = round::judged(&both, &plan, &mut Tally::default())
                 .and_then(|_| compare::greedy_plan(&both, 1, Lent::enough(seed)))
                 .and_then(|_| compare::reach(&both, 1))
                 .and_then(|_| compare::reach(&both, 2));
@@ -144,29 +146,27 @@ fn limit_by_library(costs: &[u8]) -> Result<Option<usize>, Refusal> {
 }
 
 fn best_bytes(case: &Case) -> Option<Vec<u8>> {
-    let (mut plan, mut work) = (vec![0; PLAN_BYTES], vec![0; WORK_WORDS]);
-    let answer = (QUICK_REFERENCE.best_plan)(&case.costs, &mut plan, &mut work);
-    (answer.refusal == 0).then_some(plan)
+    let (answer, plan) = QUICK_REFERENCE.best_filled(&case.costs);
+    (answer.refusal == 0).then_some(plan.to_vec())
 }
 
-/// Judge on the plan with each byte set to each value, the zero records behind the last module included.
+/// Judge, and the single-block time, on the plan with each byte set to each value, the zero records behind the last module
+/// included.
 fn judge_all_changes(case: &Case, plan: &[u8], values: &[u8], tally: &mut Tally) {
     let mut changed = plan.to_vec();
     for i in 0..PLAN_BYTES {
         for &value in values {
             changed[i] = value;
-            let answer = judged(case, &changed);
-            round::count("judge", answer, tally);
+            judged(case, &changed, tally);
         }
         changed[i] = plan[i];
     }
 }
 
-fn judged(case: &Case, plan: &[u8]) -> Answer {
+fn judged(case: &Case, plan: &[u8], tally: &mut Tally) {
     let both = Both::on(&REFERENCE, &LIBRARY, &case.costs);
-    match compare::judge(&both, plan) {
-        Ok(answer) => answer,
-        Err(difference) => compare::fail(case.seed, &case.costs, &difference),
+    if let Err(difference) = round::judged(&both, plan, tally) {
+        compare::fail(case.seed, &case.costs, &difference);
     }
 }
 
@@ -217,7 +217,7 @@ fn random_plans() {
             let mut behind = best.clone();
             behind.copy_within(0..4, 4 * random.below(RECORDS));
             for plan in [any, small, near, behind] {
-                round::count("judge", judged(&case, &plan), &mut tally);
+                judged(&case, &plan, &mut tally);
             }
         }
     }

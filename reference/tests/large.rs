@@ -1,54 +1,33 @@
 //! Files that are too large for trying all plans: the library's plan is that of the same search in Rust, byte for byte, and
-//! its bottleneck that of the dynamic program.
+//! its bottleneck, cores and single-block time are those of the dynamic programs.
 
-use reference::answer::Answer;
 use reference::cases::{self, Case, KINDS, Kind};
 use reference::compare::{self, Both, Difference, Lent};
 use reference::costs::{self, MOST_CORES, MOST_TASKS, MOST_VALUE};
-use reference::paper;
-use reference::plan::Load;
 use reference::random::Random;
 use reference::round;
 use reference::services::{LIBRARY, QUICK_REFERENCE};
 use reference::tally::Tally;
 
-/// Best plan by all three searches, Judge on its plan, the greedy plan with some groupings, and the reaches.
+/// Best plan by both searches and both dynamic programs, the greedy plan with some groupings, Judge and the single-block time on
+/// these plans, and the reaches.
 fn check(case: &Case, tally: &mut Tally) -> Result<(), Difference> {
     let both = Both::on(&QUICK_REFERENCE, &LIBRARY, &case.costs);
     let lent = Lent::enough(case.seed);
     let (answer, plan) = compare::best_plan(&both, lent)?;
     round::count("best plan", answer, tally);
-    expect_bottleneck(&case.costs, answer)?;
-    compare::judge(&both, &plan)?;
+    let (_, time) = round::judged(&both, &plan, tally)?;
+    round::dynamic::expect_least(&case.chain(), answer, time)?;
     let mut random = Random::new(case.seed);
     for _ in 0..20 {
         let grouping = random.word() as u16 & ((1 << (case.costs[3] - 1)) - 1);
         let grouping = grouping & random.word() as u16;
         let (answer, plan) = compare::greedy_plan(&both, grouping, lent)?;
         round::count("greedy plan", answer, tally);
-        compare::judge(&both, &plan)?;
+        round::judged(&both, &plan, tally)?;
     }
-    round::reaches::all(&both, case, &mut random, tally)
-}
-
-/// The answer's bottleneck equals, as a fraction, the least one of the dynamic program.
-fn expect_bottleneck(costs: &[u8], answer: Answer) -> Result<(), Difference> {
-    let chain = costs::read(costs).expect("an accepted file");
-    let least = paper::least_bottleneck(&chain);
-    let found = Load {
-        response: answer.response,
-        copies: answer.copies,
-    };
-    let same = match least {
-        None => answer.refusal == 9,
-        Some(least) => answer.refusal == 0 && !least.is_less(found) && !found.is_less(least),
-    };
-    if same {
-        return Ok(());
-    }
-    let service = "best plan";
-    let what = format!("dynamic program: {least:?}, found {answer:?}");
-    Err(Difference { service, what })
+    round::reaches::all(&both, case, &mut random, tally)?;
+    compare::costs_as_lent(&both)
 }
 
 fn check_all(title: &str, files: impl Iterator<Item = Case>) -> Tally {

@@ -96,6 +96,10 @@ fn filled_in_and_planned() {
         ("reach: k", 17_000),
         ("greedy plan: refusal 11, not by needs added up", 600),
         ("judge: refusal 14, not by needs added up", 450),
+        (
+            "block time: more than the slowest response, several modules",
+            50_000,
+        ),
         ("reach: shorter than by needs added up", 500),
     ] {
         tally.assert_at_least(what, least);
@@ -194,10 +198,7 @@ fn every_size() {
         for p in 1..=MOST_CORES {
             let records = 1 + k + k * p + (k - 1) * p + (k - 1) * p * p;
             let bytes = records * RECORD_BYTES;
-            let due = Filled {
-                count: bytes as u32,
-                ..Filled::default()
-            };
+            let due = Filled::counted(bytes as u32);
             for kind in [LawKind::Realistic, LawKind::Remainders, LawKind::Brim] {
                 let case = cases::sized(kind, k, p, seed);
                 assert_eq!(filled_into(bytes, &case), due, "{kind:?}, k = {k}, P = {p}");

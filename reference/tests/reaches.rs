@@ -22,10 +22,7 @@ fn large_files() -> impl Iterator<Item = Case> {
 /// The library's reach of a first task: one that the module can end with, or 0.
 fn reach_of(case: &Case, first: usize) -> usize {
     let answer = (LIBRARY.reach)(&case.costs, first as u8);
-    let due = Filled {
-        count: answer.count,
-        ..Filled::default()
-    };
+    let due = Filled::counted(answer.count);
     assert_eq!(answer, due, "seed {}, task {first}", case.seed);
     let (reach, tasks) = (answer.count as usize, case.costs[3].into());
     let is_last_or_none = reach == 0 || (first..=tasks).contains(&reach);

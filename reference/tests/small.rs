@@ -2,12 +2,10 @@
 
 use reference::answer::Answer;
 use reference::cases::{self, KINDS, Kind};
-use reference::compare::{self, Both, Difference, Lent};
+use reference::compare::{self, Both, Lent};
 use reference::costs::{self, Chain, MOST_CORES, MOST_VALUE};
-use reference::every::WORK_WORDS;
 use reference::greedy;
-use reference::paper;
-use reference::plan::{self, Load, Module, PLAN_BYTES};
+use reference::plan::{self, Module, PLAN_BYTES};
 use reference::round;
 use reference::services::{LIBRARY, QUICK_REFERENCE, REFERENCE};
 use reference::tally::Tally;
@@ -31,6 +29,22 @@ fn library_answers_as_the_reference() {
     }
     assert_all_met(&tally);
     assert_reaches_met(&tally);
+    assert_times_met(&tally);
+}
+
+/// Which single-block times are to be met, each at least so often; their refusals are Judge's.
+fn assert_times_met(tally: &Tally) {
+    for (what, least) in [
+        ("block time: 0, one module", 15_000),
+        ("block time: the slowest response, one module", 110_000),
+        ("block time: the slowest response, several modules", 14_000),
+        (
+            "block time: more than the slowest response, several modules",
+            230_000,
+        ),
+    ] {
+        tally.assert_at_least(what, least);
+    }
 }
 
 /// Where the reaches are to end, each at least so often.
@@ -73,20 +87,20 @@ fn assert_all_met(tally: &Tally) {
         ("greedy plan: refusal 11", 5_000),
         ("greedy plan: refusal 11, not by needs added up", 3_000),
         ("greedy plan: more cores at the start", 1_600),
-        ("judge: figures", 5_000),
-        ("judge: several copies of the slowest", 500),
-        ("judge: refusal 12", 5_000),
-        ("judge: refusal 13", 500),
-        ("judge: refusal 14", 60_000),
-        ("judge: refusal 14, not by needs added up", 2_000),
+        ("judge: figures", 119_000),
+        ("judge: several copies of the slowest", 14_500),
+        ("judge: refusal 12", 67_500),
+        ("judge: refusal 13", 48_000),
+        ("judge: refusal 14", 97_000),
+        ("judge: refusal 14, not by needs added up", 3_000),
         (
             "judge: refusal 14, not by needs added up, behind others",
-            400,
+            690,
         ),
-        ("judge: refusal 14, at 255 cores", 240),
-        ("judge: refusal 14, a core short", 17_000),
-        ("judge: refusal 15", 5_000),
-        ("judge: refusal 16", 5_000),
+        ("judge: refusal 14, at 255 cores", 390),
+        ("judge: refusal 14, a core short", 28_000),
+        ("judge: refusal 15", 135_000),
+        ("judge: refusal 16", 29_000),
     ] {
         tally.assert_at_least(what, least);
     }
@@ -96,9 +110,7 @@ fn assert_all_met(tally: &Tally) {
 type Filled = (Answer, [u8; PLAN_BYTES]);
 
 fn best_filled(chain: &Chain) -> Filled {
-    let (mut plan, mut work) = ([0; PLAN_BYTES], vec![0; WORK_WORDS]);
-    let answer = (QUICK_REFERENCE.best_plan)(&costs::write(chain), &mut plan, &mut work);
-    (answer, plan)
+    QUICK_REFERENCE.best_filled(&costs::write(chain))
 }
 
 fn greedy_filled(chain: &Chain, grouping: u16) -> Filled {
@@ -199,25 +211,14 @@ fn fractions_as_near_as_can_be() {
 fn quick_searches_find_what_trying_all_plans_finds() {
     for seed in 1_000_000..1_006_000 {
         let case = cases::small(seed);
-        let both = Both::on(&REFERENCE, &QUICK_REFERENCE, &case.costs);
-        let answer = match compare::best_plan(&both, Lent::enough(seed)) {
-            Ok((answer, _)) => answer,
-            Err(difference) => compare::fail(seed, &case.costs, &difference),
-        };
-        let chain = case.chain();
-        let least = paper::least_bottleneck(&chain);
-        let expected = (answer.refusal == 0).then_some(Load {
-            response: answer.response,
-            copies: answer.copies,
+        let [quick, library] =
+            [&QUICK_REFERENCE, &LIBRARY].map(|found| Both::on(&REFERENCE, found, &case.costs));
+        let result = compare::best_plan(&quick, Lent::enough(seed)).and_then(|(answer, plan)| {
+            let time = compare::block_time(&library, &plan)?.count;
+            round::dynamic::expect_least(&case.chain(), answer, time)
         });
-        let same = match (expected, least) {
-            (Some(a), Some(b)) => !a.is_less(b) && !b.is_less(a),
-            (a, b) => a.is_none() && b.is_none(),
-        };
-        if !same {
-            let service = "dynamic program";
-            let what = format!("expected {expected:?}, found {least:?}");
-            compare::fail(seed, &case.costs, &Difference { service, what });
+        if let Err(difference) = result {
+            compare::fail(seed, &case.costs, &difference);
         }
     }
 }

@@ -1,9 +1,9 @@
--- What holds of plans (document 01, "The chain and the board", "Plan bytes"; document 02, M-102): the laws that a reader looks for, and
--- that the layers above cite. The definitions are in specs/; `Claims` has the direct statements. Assumes nothing.
+-- What holds of plans (document 01, "The chain and the board", "Plan bytes"; document 02, M-102 and M-104): the laws that a reader
+-- looks for, and that the layers above cite. The definitions are in specs/; `Claims` has the direct statements. Assumes nothing.
 use mathlib.Core.Path.{_≡_, refl}
 use mathlib.Core.Bool.{true}
 use mathlib.Core.List.{List, _∷_, List·Memᴰ}
-use Prim.Native.Nat.{ℕ, _-_, _*_, _≤_}
+use Prim.Native.Nat.{ℕ, _+_, _-_, _*_, _≤_}
 use native.Mathlib.Nat.{mul-le-mul-right}
 use native.Mathlib.Omega.{arith}
 use lib.ListN.{length}
@@ -16,17 +16,18 @@ use Rattle.modules.specs.Reach.{reach}
 use Rattle.layout.specs.Layout.{mostModules, planBytes, modulesOf, encodePlan}
 use Rattle.layout.proofs.Placing as placing
 use Rattle.figures.specs.declared.Slowest.{Slowest}
-use Rattle.figures.specs.Model.{bottleneck}
+use Rattle.figures.specs.Model.{responses, bottleneck, blockTime}
 use Rattle.figures.specs.Rules.{covers, keepsRules}
-use Rattle.figures.specs.Claims.{loads, IsBottleneck}
+use Rattle.figures.specs.Claims.{loads, IsBottleneck, onceEach, sum, externals}
 use Rattle.figures.proofs.Bounds as bounds
 use Rattle.figures.proofs.Covering as covering
 use Rattle.figures.proofs.Decoding as decoding
 use Rattle.figures.proofs.Kept as kept
 use Rattle.figures.proofs.Reaching as reaching
+use Rattle.figures.proofs.Timing as timing
 use Rattle.figures.proofs.Tops as tops
 
--- ---- plans that keep the rules of accepted costs: few modules, whose bytes say them again, and bounded responses
+-- ---- plans that keep the rules of accepted costs: few modules, whose bytes say them again, and bounded responses and times
 
 module _ (s : List ℕ) (b : Board) (c : IsCosts s b) (ms : List Module) (keeps : keepsRules (chainOf s b) ms ≡ true) where
   covered : covers (b .tasks) 1 ms ≡ true
@@ -63,6 +64,25 @@ module _ (s : List ℕ) (b : Board) (c : IsCosts s b) (ms : List Module) (keeps 
         bounds.bottleneck-most (chainOf s b) mostValue (b .tasks) ms (bounds.costs-most s b c) covered,
         mul-le-mul-right {m = 2 * b .tasks - 1} {n = 23} mostValue (omega (arith, c .ranged .most-tasks)),
       )
+
+  -- M-104: no single-block time is above 23 values, so it is below 2²⁵
+  pub plan-block-time : blockTime (chainOf s b) ms ≤ 23000000
+  plan-block-time =
+      omega (
+        arith,
+        timing.time-most (chainOf s b) mostValue (b .tasks) ms (bounds.costs-most s b c) covered,
+        mul-le-mul-right {m = 2 * (b .tasks - 1) + 1} {n = 23} mostValue (omega (arith, c .ranged .most-tasks)),
+      )
+
+-- ---- M-104: the single-block time "adds each task's execution and each transfer once, at the plan's cores"
+
+module _ (c : Chain) (ms : List Module) (keeps : keepsRules c ms ≡ true) where
+  pub block-time-tasks : blockTime c ms ≡ onceEach c ms
+  block-time-tasks = timing.time-tasks c (c .tasks) 1 ms (kept.keeps-parts c ms keeps .0)
+
+  -- it is the sum of the modules' responses less each external transfer once
+  pub block-time-responses : blockTime c ms + externals c ms ≡ sum (responses c 0 ms)
+  block-time-responses = timing.time-responses c (c .tasks) ms (kept.keeps-parts c ms keeps .0)
 
 -- ---- M-102: no module of a plan that keeps the rules goes beyond its reach
 

@@ -7,4 +7,5 @@ pub mod Laws
 pub mod Listed
 pub mod Reaching
 pub mod Served
+pub mod Timing
 pub mod Tops

@@ -1,4 +1,4 @@
--- The records of plan bytes as a list of modules, one after another, with their cores and responses. Assumes nothing.
+-- The records of plan bytes as a list of modules, one after another, with their cores, responses and single-block time. Assumes nothing.
 use mathlib.Core.Path.{_≡_, refl, ap}
 use mathlib.Core.Bool.{true, false, cond}
 use mathlib.Core.Logic.{⊎-elim}
@@ -12,11 +12,11 @@ use lib.ListN.{length, getD, List·getD-eq-default}
 use borrow.Author.Tests.{lt-ltb, le-ltb}
 use Rattle.records.proofs.Cases.{lt-or-le}
 use Rattle.modules.specs.declared.Module.{Module}
-use Rattle.modules.specs.Model.{Chain, response}
+use Rattle.modules.specs.Model.{Chain, response, passage}
 use Rattle.modules.proofs.Left.{left-some, left-none}
 use Rattle.layout.specs.Layout.{moduleAt, modulesFrom}
 use Rattle.figures.specs.declared.Slowest.{Slowest}
-use Rattle.figures.specs.Model.{headCores, responses, coresOf, slowerOf, slowestFrom, bottleneck}
+use Rattle.figures.specs.Model.{headCores, responses, coresOf, slowerOf, slowestFrom, bottleneck, blockTime}
 use Rattle.figures.specs.Plan.{coresBefore, slownessAt}
 
 pub modules-length : (w : List ℕ) (i n : ℕ) → length (modulesFrom w i n) ≡ n
@@ -56,6 +56,18 @@ module _ (w : List ℕ) (i n : ℕ) where
   pub cores-end : n ≤ i → coresOf (modulesFrom w i (n - i)) ≡ 0
   unfolding coresOf
   cores-end h = rw (modules-end h)
+
+-- ---- the single-block time
+
+module _ (c : Chain) (w : List ℕ) (i n : ℕ) where
+  pub time-step : {m : Module} {q x : ℕ} → i < n → m ≡ moduleAt w i → q ≡ cond (ltb (i + 1) n) (moduleAt w (i + 1) .cores) 0
+      → x ≡ passage c (m .first) (m .last) (m .copies) (m .cores) q → blockTime c (modulesFrom w i (n - i)) ≡ x + blockTime c (modulesFrom w (i + 1) (n - (i + 1)))
+  unfolding blockTime
+  time-step h e f g = rw (modules-step w i n h, g, e, f, head-cores w (i + 1) n)
+
+  pub time-end : n ≤ i → blockTime c (modulesFrom w i (n - i)) ≡ 0
+  unfolding blockTime
+  time-end h = rw (modules-end w i n h)
 
 -- ---- the cores before a record
 

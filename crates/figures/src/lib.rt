@@ -1,10 +1,11 @@
-// The figures of a plan (document 01, "The chain and the board", "Plan bytes"; source document 000, 2.1 and 2.2): what plan bytes
-// say, and what such a plan costs.
+// The figures of a plan (document 01, "The chain and the board", "Plan bytes"; document 02, M-104; source document 000, 2.1
+// and 2.2): what plan bytes say, and what such a plan costs.
 //
 // Whatever lies above takes every figure of a plan from here. No public function has a `requires`: each answers for all bytes, boards
 // and numbers.
 mod plan;
 
+pub use plan::block_time;
 pub use plan::cores_used;
 pub use plan::figures;
 pub use plan::refuse;

@@ -5,12 +5,13 @@ ghost use Prim.Native.Nat.{_+_, _-_, _≤_, _<_};
 ghost use lib.Dec.{ltb};
 ghost use Rattle.modules.specs.Model.{chainOf};
 ghost use Rattle.layout.specs.Layout.{mostModules, moduleAt, modulesFrom, modulesOf};
-ghost use Rattle.figures.specs.Model.{coresOf, slowerOf, bottleneck};
+ghost use Rattle.figures.specs.Model.{coresOf, slowerOf, bottleneck, blockTime};
 ghost use Rattle.figures.specs.Plan.{coresBefore, slownessAt, figuresOf, refusal, responseAt};
 use crate::Answer;
 use crate::Slowest;
 use layout::module_at;
 use layout::module_count;
+use modules::passage;
 use modules::response_of;
 use records::Board;
 
@@ -136,6 +137,23 @@ pub fn response(costs: &[u8], board: Board, plan: &[u8], i: u32) -> u64
         return x.response;
     }
     0
+}
+
+// The single-block time of plan bytes (document 02, M-104), in ticks.
+pub fn block_time(costs: &[u8], board: Board, plan: &[u8]) -> u64
+    ensures { λ r. ⌜ r ≡ blockTime (chainOf (now (costs .entry)) board) (modulesOf (now (plan .entry)) (board .tasks)) ⌝ }
+{
+    let count = module_count(plan, board.tasks);
+    let mut sum: u64 = 0;
+    let mut i: u32 = 0;
+    while i < count {
+        let m = module_at(plan, i);
+        let next = i + 1;
+        let q = cores_at(plan, count, next);
+        sum += passage(costs, board, m, q);
+        i = next;
+    }
+    sum
 }
 
 // A refusal by its number and place, with zero figures.

@@ -1,21 +1,25 @@
--- What holds of Judge (document 01, "Three services", "Plan bytes", refusals 7 and 12 to 15; document 02, M-100, refusal 16): the laws
--- that a reader looks for. The definition is in specs/Judge; specs/Claims has the direct statements. Assumes nothing.
-use mathlib.Core.Path.{_≡_, ap}
+-- What holds of Judge (document 01, "Three services", "Plan bytes", refusals 7 and 12 to 15; document 02, M-100, refusal 16) and of
+-- the single-block time of what it passes (M-104): the laws that a reader looks for. The definitions are in specs/Judge and specs/Timed;
+-- specs/Claims has the direct statements. Assumes nothing.
+use mathlib.Core.Path.{_≡_, refl, sym, ap, _∙_}
 use mathlib.Core.Bool.{Bool}
 use mathlib.Core.List.{List}
 use mathlib.Core.Logic.{_↔_}
 use Prim.Native.Nat.{ℕ, _+_, _≤_}
 use lib.ListN.{length, take}
+use Rattle.records.specs.declared.Filled.{Filled}
 use Rattle.modules.specs.declared.Module.{Module}
 use Rattle.layout.specs.Layout.{mostModules, planBytes, modulesOf, encodePlan}
 use Rattle.figures.specs.declared.Answer.{Answer}
 use Rattle.figures.specs.Plan.{figuresOf}
 use Rattle.judge.specs.Judge.{shapeFault, firstFailing, judged}
-use Rattle.judge.specs.Claims.{AllPass, FailsAt, chain, Judges, Passes}
+use Rattle.judge.specs.Timed.{blockTimeAnswer}
+use Rattle.judge.specs.Claims.{AllPass, FailsAt, chain, Judges, Passes, Times}
 use Rattle.judge.proofs.Faults as faults
 use Rattle.judge.proofs.Passing as passing
 use Rattle.judge.proofs.Reading as reading
 use Rattle.judge.proofs.Shapes as shapes
+use Rattle.judge.proofs.Timing as timing
 
 -- ---- each answer exactly under its condition; passed exactly if the bytes are a plan's that keeps the rules, with its figures
 
@@ -24,8 +28,7 @@ module _ (s w : List ℕ) where
   judge-exactly a = (λ e. rw e at (passing.judge-finds s w), passing.judge-only s w a)
 
   pub judge-passes : (judged s w .number ≡ 0) ↔ Passes s w
-  unfolding figuresOf
-  judge-passes = (passing.number-passes s w, λ p. ap (λ (a : Answer). a .number) (passing.passes-figures s w p))
+  judge-passes = (passing.number-passes s w, passing.passes-number s w)
 
   pub judge-figures : (p : Passes s w) → judged s w ≡ figuresOf (chain s w) (p .modules)
   judge-figures = passing.passes-figures s w
@@ -33,6 +36,25 @@ module _ (s w : List ℕ) where
   -- "Bytes after the 48th are never read": the answer is that on the first 48 bytes
   pub judge-first : judged s (take planBytes w) ≡ judged s w
   judge-first = reading.judge-first s w
+
+-- ---- M-104: the single-block time of the plan that Judge passes, else Judge's refusal with its place and count 0
+
+module _ (s w : List ℕ) where
+  pub block-time-exactly : (a : Filled) → (blockTimeAnswer s w ≡ a) ↔ Times s w a
+  block-time-exactly a = (λ e. rw e at (timing.time-finds s w), timing.time-only s w a)
+
+  -- so it answers a time exactly if Judge passes the bytes
+  pub block-time-passes : (blockTimeAnswer s w .refusal ≡ 0) ↔ Passes s w
+  block-time-passes = (
+    λ e. judge-passes s w .0 (timing.time-number s w ∙ e),
+    λ p. ap (λ (f : Filled). f .refusal) (timing.time-passed s w p),
+  )
+
+  pub block-time-most : blockTimeAnswer s w .count ≤ 23000000
+  block-time-most = timing.time-most s w
+
+  pub block-time-first : blockTimeAnswer s (take planBytes w) ≡ blockTimeAnswer s w
+  block-time-first = timing.time-first s w
 
 -- ---- a test over all modules finds the first that fails, and none exactly if each passes
 

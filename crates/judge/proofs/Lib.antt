@@ -3,4 +3,5 @@ pub mod Laws
 pub mod Passing
 pub mod Reading
 pub mod Shapes
+pub mod Timing
 pub mod Turns

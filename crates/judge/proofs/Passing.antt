@@ -225,6 +225,10 @@ module _ (s w : List ℕ) where
   pub passes-figures : (p : Passes s w) → judged s w ≡ figuresOf (chain s w) (p .modules)
   passes-figures p = judge-only (figuresOf (chain s w) (p .modules)) (passes-judges p)
 
+  pub passes-number : Passes s w → judged s w .number ≡ 0
+  unfolding figuresOf
+  passes-number p = ap (λ (a : Answer). a .number) (passes-figures p)
+
   -- ---- a plan's bytes that are passed stand before what lies behind them, and a refusal has zero figures
 
   judges-served : (a : Answer) → judged s w ≡ a → Judges s w a → Served a w w

@@ -1,16 +1,18 @@
 -- The documents' words on Judge's refusals as direct statements, beside the definition that runs: when each is due, with which place
--- (document 01; document 02, M-100). Assumes nothing.
+-- (document 01; document 02, M-100); and of which plan the single-block time is answered (M-104). Assumes nothing.
 use mathlib.Core.Path.{_≡_}
 use mathlib.Core.Bool.{Bool, true, false}
 use mathlib.Core.List.{List}
 use Prim.Native.Nat.{ℕ, zero, suc, _+_, _≤_, _<_}
 use lib.ListN.{length, getD, take}
+use Rattle.records.specs.declared.Filled.{Filled}
 use Rattle.records.specs.Costs.{readCosts}
+use Rattle.records.specs.Filled.{filledIn, unfilled}
 use Rattle.modules.specs.declared.Module.{Module}
 use Rattle.modules.specs.Model.{Chain, chainOf}
 use Rattle.layout.specs.Layout.{mostModules, planBytes, moduleAt, modulesOf, encodePlan}
 use Rattle.figures.specs.declared.Answer.{Answer}
-use Rattle.figures.specs.Model.{coresOf}
+use Rattle.figures.specs.Model.{coresOf, blockTime}
 use Rattle.figures.specs.Rules.{keepsRules}
 use Rattle.figures.specs.Plan.{figuresOf, refusal}
 use Rattle.judge.specs.Judge.{isBlank, isModule, copiesTest, memoryTest, limitTest}
@@ -91,3 +93,8 @@ module _ (s w : List ℕ) where
     pub modules : List Module
     pub bytes : encodePlan modules ≡ take planBytes w
     pub keeps : keepsRules chain modules ≡ true
+
+  -- M-104: what is to be answered for the single-block time: that of the plan that Judge passes, else Judge's refusal with its place
+  pub data Times : Filled → Type 0 where
+    timed : (p : Passes) → Times (filledIn (blockTime chain (p .modules)))
+    refused : (a : Answer) → Judges a → (a .number ≡ 0 → ⊥) → Times (unfilled (a .number) (a .place))

@@ -9,7 +9,7 @@ use native.Mathlib.Omega.{arith}
 use lib.Dec.{leb, eqb}
 use borrow.Author.Tests.{eq-eqb, eqb-true}
 use Rattle.records.proofs.Cases.{lt-or-le, or-unless, or-right}
-use Rattle.modules.specs.Model.{Chain, run, gather, nothing, body, transfer, response}
+use Rattle.modules.specs.Model.{Chain, run, gather, nothing, body, transfer, response, passage}
 use Rattle.modules.specs.Rules.{mark, copiesAllowed}
 use Rattle.modules.proofs.Sums.{gather-some, gather-none}
 
@@ -111,6 +111,18 @@ response-drop-last c s first last to r p q h = omega (arith, body-drop c first l
 pub response-drop-first : (c : Chain) (s first last from r p q : ℕ) → first ≤ from → response c 0 from last r p q ≤ response c s first last r p q
 unfolding response
 response-drop-first c s first last from r p q h = omega (arith, body-drop c first last from last h (omega arith) p, no-sender c (from - 1) p)
+
+-- ---- M-104: what a module adds to the single-block time
+
+-- its body and what it sends
+pub passage-parts : (c : Chain) (first last r p q : ℕ) → passage c first last r p q ≡ body c first last p + transfer c last p q
+unfolding passage
+passage-parts c first last r p q = refl
+
+-- with what it receives that is its response
+pub response-passage : (c : Chain) (s first last r p q : ℕ) → response c s first last r p q ≡ transfer c (first - 1) s p + passage c first last r p q
+unfolding response passage
+response-passage c s first last r p q = omega arith
 
 -- ---- the most that a response can be
 

@@ -1,4 +1,4 @@
--- What holds of modules (document 01, "The chain and the board"; document 02, M-100, M-102 and M-103): the laws that a reader looks for, and
+-- What holds of modules (document 01, "The chain and the board"; document 02, M-100 and M-102 to M-104): the laws that a reader looks for, and
 -- that the layers above cite. The definitions are in specs/. Assumes nothing.
 use mathlib.Core.Path.{_≡_}
 use mathlib.Core.Bool.{true, false, _&&_}
@@ -8,7 +8,7 @@ use Prim.Native.Nat.{ℕ, _+_, _-_, _*_, _≤_, _<_}
 use Rattle.records.specs.declared.Board.{Board}
 use Rattle.records.specs.declared.Filled.{Filled}
 use Rattle.records.specs.Format.{IsCosts}
-use Rattle.modules.specs.Model.{Chain, chainOf, response}
+use Rattle.modules.specs.Model.{Chain, chainOf, body, transfer, response, passage}
 use Rattle.modules.specs.Rules.{share, shares, memoryFits, copiesAllowed, moduleLimit, withinLimit, moduleRules, stillKept, fewestCores}
 use Rattle.modules.specs.Reach.{reach, reachAnswer}
 use Rattle.modules.specs.Claims.{needing, IsFewest, IsLimit, IsReach, NoReach, SomeHold, Reaches}
@@ -63,6 +63,15 @@ module _ (c : Chain) (first last : ℕ) where
 
   pub shares-more : (p : ℕ) → 1 ≤ first → first ≤ last → shares c first last p ≡ shares c first (last - 1) p + share c last p
   shares-more = sharing.shares-more c first last
+
+-- ---- M-104: what a module adds to the single-block time is its body and what it sends; with what it receives, its response
+
+module _ (c : Chain) (first last r p q : ℕ) where
+  pub passage-parts : passage c first last r p q ≡ body c first last p + transfer c last p q
+  passage-parts = amounts.passage-parts c first last r p q
+
+  pub response-passage : (s : ℕ) → response c s first last r p q ≡ transfer c (first - 1) s p + passage c first last r p q
+  response-passage s = amounts.response-passage c s first last r p q
 
 -- ---- M-100: a module's limit is the least of its tasks' limits, those without one left aside
 

@@ -1,5 +1,5 @@
--- A module in the chain model (document 01, "The chain and the board"; source document 000, 2.1 and 2.2), over a chain's cost
--- functions. Tasks are numbered from 1. 0 cores stand for "no module" before the first or after the last one. Assumes nothing.
+-- A module in the chain model (document 01, "The chain and the board"; document 02, M-104; source document 000, 2.1 and 2.2), over a
+-- chain's cost functions. Tasks are numbered from 1. 0 cores stand for "no module" before the first or after the last one. Assumes nothing.
 use Prim.Native.Nat.{ℕ, zero, suc, _+_, _-_}
 use mathlib.Core.List.{List}
 use mathlib.Core.Bool.{Bool, cond, _||_}
@@ -62,3 +62,8 @@ transfer c t s q = cond (eqb s 0 || eqb q 0) 0 (c .external t s q)
 -- what it sends, each transfer counted at both its ends; copies don't enter it
 unfoldable pub response : Chain → (s first last r p q : ℕ) → ℕ
 response c s first last r p q = transfer c (first - 1) s p + body c first last p + transfer c last p q
+
+-- M-104: what a module adds to the single-block time of a plan: its body and what it sends, so that each transfer is counted once, at
+-- its sender; copies don't enter it
+unfoldable pub passage : Chain → (first last r p q : ℕ) → ℕ
+passage c first last r p q = body c first last p + transfer c last p q

@@ -2,7 +2,7 @@
 // values cannot overflow 64 bits.
 ghost use mathlib.Core.Path.{_≡_};
 ghost use Prim.Native.Nat.{_<_};
-ghost use Rattle.modules.specs.Model.{chainOf, gather, nothing, body as bodyOf, transfer as transferOf, response as responseTo};
+ghost use Rattle.modules.specs.Model.{chainOf, gather, nothing, body as bodyOf, transfer as transferOf, response as responseTo, passage as passageOf};
 ghost use Rattle.modules.specs.Rules.{mark, share as shareOf, shares as sharesOf};
 use crate::Module;
 use records::Board;
@@ -83,6 +83,15 @@ pub fn transfer(costs: &[u8], board: Board, t: u8, s: u8, q: u8) -> u32
     held::transfer(costs, board, t, s, q)
 }
 
+// What the module m adds to the single-block time of a plan (document 02, M-104): its body, and what it sends to a module of q cores, 0
+// for none.
+pub fn passage(costs: &[u8], board: Board, m: Module, q: u8) -> u64
+    ensures { λ r. ⌜ (r ≡ passageOf (chainOf (now (costs .entry)) board) (m .first) (m .last) (m .copies) (m .cores) q) × (r < 4402341478400) ⌝ }
+{
+    let sent = transfer(costs, board, m.last, m.cores, q) as u64;
+    body(costs, board, m.first, m.last, m.cores) + sent
+}
+
 // The response of the module m between one of s cores and one of q, 0 for none.
 pub fn response_of(costs: &[u8], board: Board, s: u8, m: Module, q: u8) -> u64
     ensures { λ r. ⌜ (r ≡ responseTo (chainOf (now (costs .entry)) board) s (m .first) (m .last) (m .copies) (m .cores) q) × (r < 8796093022208) ⌝ }
@@ -92,6 +101,5 @@ pub fn response_of(costs: &[u8], board: Board, s: u8, m: Module, q: u8) -> u64
         before = m.first - 1;
     }
     let received = transfer(costs, board, before, s, m.cores) as u64;
-    let sent = transfer(costs, board, m.last, m.cores, q) as u64;
-    received + body(costs, board, m.first, m.last, m.cores) + sent
+    received + passage(costs, board, m, q)
 }

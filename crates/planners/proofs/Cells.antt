@@ -15,6 +15,7 @@ use Rattle.records.proofs.Cases.{lt-or-le, true-not-false, false-unless}
 use Rattle.modules.specs.Model.{Chain, response, transfer, body}
 use Rattle.modules.specs.Rules.{share, shares, moduleRules, stillKept, copiesAllowed}
 use Rattle.modules.specs.Reach.{reach}
+use Rattle.modules.proofs.Amounts.{passage-parts, response-passage}
 use Rattle.modules.proofs.Laws.{shares-more, rules-drop, rules-apart, rules-longer, rules-reach}
 use Rattle.search.specs.Least.{pick, lesser, least}
 use Rattle.search.specs.Copies.{loadOf, fewest}
@@ -26,22 +27,25 @@ use Rattle.search.proofs.Tests.{and-l, and-r, and-i}
 use Rattle.search.proofs.Least.{pick-yes, pick-no, pick-ge, pick-le, least-cap, least-none, least-stop}
 use Rattle.search.proofs.Flat.{small-set}
 use Rattle.search.proofs.Loops.{overCopies-none}
+use Rattle.search.proofs.Copies.{fewest-enough}
 use Rattle.search.proofs.Cheapest.{overCopies-at}
-use Rattle.search.proofs.Plain.{plain-cap, plain-rises}
-use Rattle.planners.specs.Search.{grain, problem, ofSize, Sized, Holds, Reached, Loaded}
-use Rattle.planners.proofs.Instance.{problem-plain}
+use Rattle.search.proofs.Tiers.{tiered-rises}
+use Rattle.planners.specs.Search.{grain, unit, ticks, price, problem, ofSize, noPlan, topThreshold, Sized, Holds, Reached, Loaded}
+use Rattle.planners.proofs.Instance.{problem-tiered}
 use Rattle.planners.proofs.Fitting.{reached-inside}
 
 -- ---- the size of the board
 
-pub size-cap : (k p : ℕ) → cap (ofSize k p) ≡ p + 1
-size-cap k p = plain-cap (ofSize k p) (record { price-is = λ s t l r p q. refl; unit-is = refl })
+pub size-cap : (k p : ℕ) → cap (ofSize k p) ≡ noPlan p
+unfolding cap
+size-cap k p = omega arith
 
-pub chain-cap : (c : Chain) → cap (problem c) ≡ c .board + 1
-chain-cap c = plain-cap (problem c) (problem-plain c)
+pub chain-cap : (c : Chain) → cap (problem c) ≡ noPlan (c .board)
+unfolding cap
+chain-cap c = omega arith
 
 -- a least so far is small
-pub least-most : (c : Chain) (i m : ℕ) (f : ℕ → ℕ) → m ≡ least (cap (problem c)) i f → m ≤ c .board + 1
+pub least-most : (c : Chain) (i m : ℕ) (f : ℕ → ℕ) → m ≡ least (cap (problem c)) i f → m ≤ noPlan (c .board)
 least-most c i m f e = omega (arith, e, least-cap (cap (problem c)) i f, chain-cap c)
 
 -- what is read depends on the size alone
@@ -57,19 +61,20 @@ pub cells-few : {b : Board} → Sized b → cells (ofSize (b .tasks) (b .cores))
 cells-few {b} h = mul-le-mul {n₁ = b .tasks - 1} {n₂ = 11} (omega (arith, h .most-tasks)) (square-range h .1)
 
 -- writing a small number keeps the work area
-pub holds-set : {b : Board} {w : List ℕ} → Holds b w → (i v : ℕ) → i < length w → v ≤ b .cores + 1 → Holds b (set w i v)
+pub holds-set : {b : Board} {w : List ℕ} → Holds b w → (i v : ℕ) → i < length w → v ≤ noPlan (b .cores) → Holds b (set w i v)
 holds-set {b} {w} h i v l g = record {
   sized = h .sized;
   long = simp length-set (h .long);
-  low = small-set w i v (b .cores + 1) l g (h .low);
+  low = small-set w i v (noPlan (b .cores)) l g (h .low);
 }
 
 -- ---- one module in its place
 
 -- what it receives, its body and what it sends
 pub response-parts : (c : Chain) (s t l r p q : ℕ) → response c s (t + 1) l r p q ≡ transfer c t s p + body c (t + 1) l p + transfer c l p q
-unfolding response
-response-parts c s t l r p q = let e : t + 1 - 1 ≡ t = omega arith in rw e
+response-parts c s t l r p q =
+    let e : transfer c (t + 1 - 1) s p ≡ transfer c t s p = ap (λ (i : ℕ). transfer c i s p) (omega arith) in
+    omega (arith, response-passage c s (t + 1) l r p q, passage-parts c (t + 1) l r p q)
 
 -- where it keeps the rules in one copy, only its copies are left to ask for
 pub one-rules : (c : Chain) (first last r p : ℕ) → moduleRules c first last 1 p ≡ true → moduleRules c first last r p ≡ copiesAllowed c first last r
@@ -77,45 +82,65 @@ one-rules c first last r p e = rules-apart c first last r p ∙ rw (e, and-true)
 
 -- what is known of it once it is summed up and two copies are asked for
 pub loaded : {c : Chain} {s t q l received stay : ℕ} {rep : Bool} → Reached c t l → moduleRules c (t + 1) l 1 q ≡ true → received ≡ transfer c t s q
-    → received < 4294967296 → (stay ≡ body c (t + 1) l q) × (stay < 4398046511104) → rep ≡ copiesAllowed c (t + 1) l 2 → Loaded c s t q l (received + stay) rep
-loaded {c} {s} {t} {q} {l} reached keeps a low b copies = record {
+    → received < 4294967296 → (stay ≡ body c (t + 1) l q) × (stay < 4398046511104) → rep ≡ copiesAllowed c (t + 1) l 2 → Loaded c s t q l (received + stay) stay rep
+loaded reached keeps comes low body copies = record {
   reached = reached;
   keeps = keeps;
-  taken = omega (arith, a, b .0);
-  low = omega arith;
+  taken = omega (arith, comes);
+  stays = body .0;
+  low = omega (arith, body .1);
   replicable = copies;
 }
 
 -- ---- over the copies: r are the fewest that are enough, and their load is the same for each number of copies
 
-module _ {c : Chain} {s t q l base : ℕ} {rep : Bool} (h : Loaded c s t q l base rep) (n q′ : ℕ) {sent r : ℕ} (is-sent : sent ≡ transfer c l q q′)
+module _ {c : Chain} {s t q l base stay : ℕ} {rep : Bool} (h : Loaded c s t q l base stay rep) (n q′ : ℕ) {sent r : ℕ} (is-sent : sent ≡ transfer c l q q′)
     (is-fewest : r ≡ fewest rep ((base + sent) * grain) ((base + sent) * grain) n) (some : 1 ≤ q) (rest : Table) where
+  -- its load
+  abbrev load : ℕ
+  load = (base + sent) * grain
+
   allows : (i : ℕ) → moduleRules c (t + 1) l i q ≡ (true && (rep || leb i 1))
   unfolding copiesAllowed
   allows i = one-rules c (t + 1) l i q (h .keeps) ∙ rw (h .replicable) (or-comm (leb i 1) _)
 
-  loads : (i : ℕ) → response c s (t + 1) l i q q′ * grain ≡ loadOf ((base + sent) * grain) ((base + sent) * grain) i
+  loads : (i : ℕ) → response c s (t + 1) l i q q′ * grain ≡ loadOf load load i
   loads i =
-      let a = (base + sent) * grain in
-      rw (response-parts c s t l i q q′, ← (h .taken), ← is-sent)
-      (le-antisymm (pick-ge (leb i 1) a a a (λ _. le-refl a) (le-refl a)) (pick-le (leb i 1) a a a (le-refl a) (le-refl a)))
+      let e : response c s (t + 1) l i q q′ ≡ base + sent = omega (arith, response-parts c s t l i q q′, h .taken, h .stays, is-sent) in
+      rw e (le-antisymm (pick-ge (leb i 1) load load load (λ _. le-refl load) (le-refl load)) (pick-le (leb i 1) load load load (le-refl load) (le-refl load)))
+
+  -- what r copies weigh
+  abbrev pub weighs : ℕ
+  weighs = unit * (r * q) + (stay + sent)
+
+  priced : price c t l r q q′ ≡ weighs
+  priced = omega (arith, passage-parts c (t + 1) l r q q′, h .stays, is-sent)
 
   cheapest : overCopies (problem c) (fitsAt (problem c) n) rest s t q l q′
-      ≡ pick (leb 1 r && leb (s + r * q + q′) (c .board)) (lesser (c .board + 1) (r * q + rest q l q′)) (c .board + 1)
+      ≡ pick (leb 1 r && leb (s + r * q + q′) (c .board)) (lesser (noPlan (c .board)) (weighs + rest q l q′)) (noPlan (c .board))
   cheapest =
-      let a = (base + sent) * grain in
-      rw (← (chain-cap c), is-fewest)
-      (overCopies-at (problem c) n s t q l q′ true rep a a allows loads (h .reached .later) (reached-inside (h .reached)) some (le-refl a) rest
-      (λ i j. plain-rises (problem c) (problem-plain c) s t l i j q q′))
+      rw (← (chain-cap c), ← priced, is-fewest)
+      (overCopies-at (problem c) n s t q l q′ true rep load load allows loads (h .reached .later) (reached-inside (h .reached)) some (le-refl load) rest
+      (λ i j. tiered-rises (problem c) (ticks c) (problem-tiered c) s t l i j q q′ (omega (arith, passage-parts c (t + 1) l i q q′, passage-parts c (t + 1) l j q q′))))
+
+  -- M-104: where there are copies, on a board of at most 32 cores and at a threshold in range, what they weigh with any rest that the table
+  -- holds is below 2³²
+  pub weighs-few : 1 ≤ r → s + r * q + q′ ≤ c .board → c .board ≤ 32 → n ≤ topThreshold → (v : ℕ) → v ≤ noPlan (c .board) → weighs + v < 4294967296
+  weighs-few a room few within v low =
+      let cores = mul-le-mul {n₁ = r} {m₁ = 1} {n₂ = r} {m₂ = q} (le-refl r) some in
+      let d = fewest-enough rep load load n (le-refl load) (rw is-fewest at a) in
+      let e = leb→le (loadOf load load r) (n * r) (rw (← is-fewest) at (and-r (rep || leb (fewest rep load load n) 1) (leb (loadOf load load (fewest rep load load n)) (n * fewest rep load load n)) d)) in
+      let f = pick-ge (leb r 1) load load load (λ _. le-refl load) (le-refl load) in
+      omega (arith, h .taken, mul-le-mul {n₁ = n} {m₁ = r} {n₂ = topThreshold} {m₂ = 32} within (omega arith))
 
   -- no number of copies is enough, or there is no room for the fewest
-  pub copies-none : (1 ≤ r → s + r * q + q′ ≤ c .board → ⊥) → c .board + 1 ≡ overCopies (problem c) (fitsAt (problem c) n) rest s t q l q′
+  pub copies-none : (1 ≤ r → s + r * q + q′ ≤ c .board → ⊥) → noPlan (c .board) ≡ overCopies (problem c) (fitsAt (problem c) n) rest s t q l q′
   copies-none f =
       let a = leb 1 r in
       let b = leb (s + r * q + q′) (c .board) in
       sym (cheapest ∙ pick-no (a && b) _ _ (not-T (a && b) (λ u. f (leb→le 1 r (and-l a b u)) (leb→le (s + r * q + q′) (c .board) (and-r a b u)))))
 
-  pub copies-some : 1 ≤ r → s + r * q + q′ ≤ c .board → lesser (c .board + 1) (r * q + rest q l q′) ≡ overCopies (problem c) (fitsAt (problem c) n) rest s t q l q′
+  pub copies-some : 1 ≤ r → s + r * q + q′ ≤ c .board → lesser (noPlan (c .board)) (weighs + rest q l q′) ≡ overCopies (problem c) (fitsAt (problem c) n) rest s t q l q′
   copies-some u v =
       let a = leb 1 r in
       let b = leb (s + r * q + q′) (c .board) in

@@ -4,7 +4,7 @@ use mathlib.Core.Path.{_≡_, sym, ap, subst, _∙_}
 use mathlib.Core.Bool.{Bool, true, false, not}
 use mathlib.Core.List.{List}
 use mathlib.Core.Logic.{inl, inr}
-use Prim.Native.Nat.{ℕ, suc, _+_, _*_, _≤_, _<_}
+use Prim.Native.Nat.{ℕ, suc, _+_, _≤_, _<_}
 use native.Mathlib.Omega.{arith}
 use lib.Dec.{T, ltb}
 use Rattle.records.proofs.Cases.{lt-or-le, false-unless, true-not-false}
@@ -23,7 +23,7 @@ use Rattle.search.proofs.Loops.{choice-needs}
 use Rattle.search.proofs.Fill.{choice-read}
 use Rattle.search.proofs.Steps.{chosen-found}
 use Rattle.planners.specs.declared.path.Passed.{Passed}
-use Rattle.planners.specs.Search.{problem, Reached, roomOf, mayCome, FirstCopies, SomeNext}
+use Rattle.planners.specs.Search.{price, problem, Reached, roomOf, mayCome, FirstCopies, SomeNext}
 use Rattle.planners.proofs.Fitting.{fits-facts, fits-reached, reached-inside}
 
 -- what the walk may choose ends within its reach (M-102), whatever table and room it goes by
@@ -32,7 +32,7 @@ unfolding choice
 choice-reached c n s t rest room l r p u =
     let f = goesOn (problem c) (fitsAt (problem c) n) rest s t room l r p in
     let q = find (suc (c .board)) 0 f in
-    let fits = and-l (fitsAt (problem c) n s t l r p q) (ltb (r * p + rest p l q) (room p)) (some-e (suc (c .board)) f u) in
+    let fits = and-l (fitsAt (problem c) n s t l r p q) (ltb (price c t l r p q + rest p l q) (room p)) (some-e (suc (c .board)) f u) in
     fits-reached c n s t l r p q (fits-facts c n s t l r p q (bool-eq (fitsAt (problem c) n s t l r p q) true (λ _. tt) (λ _. fits)))
 
 module _ (c : Chain) (w : List ℕ) (n : ℕ) (m : Passed) where

@@ -6,26 +6,24 @@ use mathlib.Core.List.{List, [], _∷_, _++_}
 use Prim.Native.Nat.{ℕ, suc, _+_, _-_, _*_, _≤_, _<_}
 use native.Mathlib.Omega.{arith}
 use lib.ListN.{length, length-append}
-use lib.Dec.{T, ltb, ltb→lt}
+use lib.Dec.{T}
 use borrow.Author.Tests.{ne-eqb}
 use Rattle.modules.specs.declared.Module.{Module}
 use Rattle.modules.specs.Model.{Chain}
 use Rattle.layout.specs.Layout.{mostModules, encodePlan, putModule}
 use Rattle.layout.proofs.Placing.{encode-length, put-bytes}
 use Rattle.search.specs.Least.{pick}
-use Rattle.search.specs.Find.{find}
-use Rattle.search.specs.Walk.{goesOn, choice, chosen, roomAfter}
+use Rattle.search.specs.Walk.{choice, chosen, roomAfter}
 use Rattle.search.specs.Best.{fitsAt, tableAt, light, plan, Feasible}
 use Rattle.search.specs.Flat.{Filled}
 use Rattle.search.specs.Loops.{Walking}
-use Rattle.search.proofs.Tests.{bool-eq, and-r}
-use Rattle.search.proofs.Find.{some-e}
+use Rattle.search.proofs.Tests.{bool-eq}
 use Rattle.search.proofs.Steps.{walking-start, walking-end, chosen-bounds, chosen-passes, walking-next}
 use Rattle.planners.specs.declared.path.Passed.{Passed}
-use Rattle.planners.specs.Search.{problem, Reached, PassedReached, roomOf, SomeNext}
+use Rattle.planners.specs.Search.{price, problem, noPlan, Reached, PassedReached, roomOf, SomeNext}
 use Rattle.planners.proofs.Cells.{chain-cap}
 use Rattle.planners.proofs.Coming.{choice-reached, read-choice}
-use Rattle.planners.proofs.Instance.{problem-laws}
+use Rattle.planners.proofs.Instance.{problem-priced}
 
 -- before the first module, with that much left
 abbrev pub atStart : ℕ → Passed
@@ -36,10 +34,10 @@ abbrev pub after : Passed → Module → ℕ → Passed
 after m x left = record { before = m .cores; from = m .last; last = x .last; copies = x .copies; cores = x .cores; left = left }
 
 module _ (c : Chain) (n : ℕ) where
-  pub light-feasible : {v : ℕ} → v ≡ light (problem c) n → v ≤ c .board → Feasible (problem c) n
+  pub light-feasible : {v : ℕ} → v ≡ light (problem c) n → v < noPlan (c .board) → Feasible (problem c) n
   light-feasible e h = omega (arith, chain-cap c)
 
-  pub feasible-light : {v : ℕ} → v ≡ light (problem c) n → Feasible (problem c) n → v ≤ c .board
+  pub feasible-light : {v : ℕ} → v ≡ light (problem c) n → Feasible (problem c) n → v < noPlan (c .board)
   feasible-light e h = omega (arith, chain-cap c)
 
   -- v holds the i modules that are passed, the last of which is m
@@ -52,10 +50,10 @@ module _ (c : Chain) (n : ℕ) where
     pub reached : PassedReached c m
     pub walking : Walking (problem c) n done left (m .cores) (m .last) (roomOf c n m)
 
-  pub laid-start : {cores : ℕ} {v : List ℕ} → cores ≡ light (problem c) n → cores ≤ c .board → v ≡ encodePlan [] → Laid (atStart (cores + 1)) 0 v
+  pub laid-start : {weight : ℕ} {v : List ℕ} → weight ≡ light (problem c) n → weight < noPlan (c .board) → v ≡ encodePlan [] → Laid (atStart (weight + 1)) 0 v
   unfolding roomOf
-  laid-start {cores} e h b =
-      let same : cores + 1 ≡ suc (light (problem c) n) = omega arith in
+  laid-start {weight} e h b =
+      let same : weight + 1 ≡ suc (light (problem c) n) = omega arith in
       record {
         done = [];
         left = c .tasks;
@@ -63,7 +61,7 @@ module _ (c : Chain) (n : ℕ) where
         count = omega arith;
         few = omega arith;
         reached = record { passed = λ n. absurd (n refl) };
-        walking = subst (Walking (problem c) n [] (c .tasks) 0 0) (fun-ext (λ q. sym same)) (walking-start (problem c) (problem-laws c) n (light-feasible e h));
+        walking = subst (Walking (problem c) n [] (c .tasks) 0 0) (fun-ext (λ q. sym same)) (walking-start (problem c) (problem-priced c) n (light-feasible e h));
       }
 
   module _ (m : Passed) (i : ℕ) (v : List ℕ) (laid : Laid m i v) where
@@ -71,7 +69,7 @@ module _ (c : Chain) (n : ℕ) where
     laid-length = ap length (laid .bytes) ∙ encode-length mostModules (laid .done)
 
     pub laid-end : c .tasks ≤ m .last → v ≡ encodePlan (plan (problem c) n)
-    laid-end h = laid .bytes ∙ ap encodePlan (walking-end (problem c) (problem-laws c) n (laid .done) (laid .left) (m .cores) (m .last) (roomOf c n m) (laid .walking) h)
+    laid-end h = laid .bytes ∙ ap encodePlan (walking-end (problem c) (problem-priced c) n (laid .done) (laid .left) (m .cores) (m .last) (roomOf c n m) (laid .walking) h)
 
     module _ (more : m .last < c .tasks) where
       -- the module that the walk takes
@@ -79,10 +77,10 @@ module _ (c : Chain) (n : ℕ) where
       next = chosen (problem c) (fitsAt (problem c) n) (tableAt (problem c) n) (m .cores) (m .last) (roomOf c n m)
 
       next-bounds : (m .last < next .last) × (next .last ≤ c .tasks) × (next .copies ≤ c .board) × (next .cores ≤ c .board)
-      next-bounds = chosen-bounds (problem c) (problem-laws c) n (laid .done) (m .cores) (m .last) (roomOf c n m) (laid .left) (laid .walking) more
+      next-bounds = chosen-bounds (problem c) (problem-priced c) n (laid .done) (m .cores) (m .last) (roomOf c n m) (laid .left) (laid .walking) more
 
       next-passes : T (choice (problem c) (fitsAt (problem c) n) (tableAt (problem c) n) (m .cores) (m .last) (roomOf c n m) (next .last) (next .copies) (next .cores))
-      next-passes = chosen-passes (problem c) (problem-laws c) n (laid .done) (m .cores) (m .last) (roomOf c n m) (laid .left) (laid .walking) more
+      next-passes = chosen-passes (problem c) (problem-priced c) n (laid .done) (m .cores) (m .last) (roomOf c n m) (laid .left) (laid .walking) more
 
       next-reached : Reached c (m .last) (next .last)
       next-reached = choice-reached c n (m .cores) (m .last) (tableAt (problem c) n) (roomOf c n m) (next .last) (next .copies) (next .cores) next-passes
@@ -97,32 +95,18 @@ module _ (c : Chain) (n : ℕ) where
         comes = read-choice c w n m filled (next .last) (next .copies) (next .cores) (next-bounds .3) ∙ bool-eq _ true (λ _. tt) (λ _. next-passes);
       }
 
-      -- there is room for it
-      next-room : next .copies * next .cores < roomOf c n m (next .cores)
-      unfolding choice
-      next-room =
-          let f = goesOn (problem c) (fitsAt (problem c) n) (tableAt (problem c) n) (m .cores) (m .last) (roomOf c n m) (next .last) (next .copies) (next .cores) in
-          let q = find (suc (c .board)) 0 f in
-          let rest = tableAt (problem c) n (next .cores) (next .last) q in
-          let h = ltb→lt (next .copies * next .cores + rest) (roomOf c n m (next .cores))
-          (and-r (fitsAt (problem c) n (m .cores) (m .last) (next .last) (next .copies) (next .cores) q) (ltb (next .copies * next .cores + rest) (roomOf c n m (next .cores))) (some-e (suc (c .board)) f next-passes)) in
-          omega arith
-
-      -- and after it the walk goes on, with what it leaves of the room
+      -- after it the walk goes on, with what it leaves of the room
       module _ (x : Module) (room : ℕ) (is : x ≡ next) (e : room ≡ roomOf c n m (x .cores)) where
         pub next-later : m .last < x .last
         next-later = rw is (next-bounds .0)
 
-        pub next-fits : x .copies * x .cores ≤ room
-        next-fits = omega (arith, subst (λ y. y .copies * y .cores < roomOf c n m (y .cores)) (sym is) next-room)
-
-        room-after : roomAfter (problem c) (fitsAt (problem c) n) (m .cores) (m .last) (roomOf c n m) x ≡ roomOf c n (after m x (room - x .copies * x .cores))
+        room-after : roomAfter (problem c) (fitsAt (problem c) n) (m .cores) (m .last) (roomOf c n m) x ≡ roomOf c n (after m x room)
         unfolding roomAfter roomOf
         room-after = fun-ext (λ q.
             rw (ne-eqb (x .last) 0 (λ z. omega (arith, next-later)))
-            (ap (λ v. pick (fitsAt (problem c) n (m .cores) (m .last) (x .last) (x .copies) (x .cores) q) (v - x .copies * x .cores) 0) (sym e)))
+            (ap (λ v. pick (fitsAt (problem c) n (m .cores) (m .last) (x .last) (x .copies) (x .cores) q) (v - price c (m .last) (x .last) (x .copies) (x .cores) q) 0) (sym e)))
 
-        pub laid-next : {w : List ℕ} → c .tasks ≤ mostModules → w ≡ putModule v i x → Laid (after m x (room - x .copies * x .cores)) (i + 1) w
+        pub laid-next : {w : List ℕ} → c .tasks ≤ mostModules → w ≡ putModule v i x → Laid (after m x room) (i + 1) w
         laid-next few b = record {
           done = laid .done ++ (x ∷ []);
           left = laid .left - 1;
@@ -133,5 +117,5 @@ module _ (c : Chain) (n : ℕ) where
           walking = subst (Walking (problem c) n (laid .done ++ (x ∷ [])) (laid .left - 1) (x .cores) (x .last)) room-after
               (subst (λ y. Walking (problem c) n (laid .done ++ (y ∷ [])) (laid .left - 1) (y .cores) (y .last)
               (roomAfter (problem c) (fitsAt (problem c) n) (m .cores) (m .last) (roomOf c n m) y)) (sym is)
-              (walking-next (problem c) (problem-laws c) n (laid .done) (m .cores) (m .last) (roomOf c n m) (laid .left) (laid .walking) more));
+              (walking-next (problem c) (problem-priced c) n (laid .done) (m .cores) (m .last) (roomOf c n m) (laid .left) (laid .walking) more));
         }

@@ -1,4 +1,4 @@
--- The definition that tries every plan finds the search's answer, and that is the best plan in document 01's words. By the
+-- The definition that tries every plan finds the search's answer, and that is the best plan in the documents' words. By the
 -- search's theorems at the problem of a chain. Assumes nothing.
 use mathlib.Core.Path.{_≡_, refl, sym, _∙_}
 use mathlib.Core.Bool.{true}
@@ -19,6 +19,7 @@ use Rattle.figures.specs.Model.{headCores, responseOf, bottleneck}
 use Rattle.figures.specs.Rules.{keepsRules}
 use Rattle.figures.specs.Claims.{loads}
 use Rattle.figures.proofs.Bounds.{loads-most, costs-most}
+use Rattle.figures.proofs.Laws.{plan-block-time}
 use Rattle.search.specs.Plan.{valid}
 use Rattle.search.specs.Bottleneck as abstract
 use Rattle.search.specs.Bottleneck.{rules, Keeps, planBottleneck}
@@ -30,11 +31,10 @@ use Rattle.search.proofs.Plan.{valid-first, valid-tail}
 use Rattle.search.proofs.Fraction.{greater-case}
 use Rattle.search.proofs.Answer.{answer-is}
 use Rattle.search.proofs.Outcome.{answer-best}
-use Rattle.search.proofs.Plain.{plain-weight}
 use Rattle.planners.specs.Search.{grain, problem, topThreshold}
 use Rattle.planners.specs.Best.{isBetter, bestPlan}
 use Rattle.planners.specs.Claims.{ComesFirst}
-use Rattle.planners.proofs.Instance.{problem-plain, problem-laws, problem-small, valid-covers, keeps-rules, rules-keeps, matched, less-same, more-same, better-decides, best-searched}
+use Rattle.planners.proofs.Instance.{Quick, problem-laws, problem-small, valid-covers, keeps-rules, rules-keeps, matched, less-same, more-same, weight-order, better-decides, best-searched}
 
 -- where no load of a plan is above most, the search's numerator is not
 numerator-most : (c : Chain) (most s t n : ℕ) (ms : List Module) → T (valid (c .tasks) (rules (problem c)) s t ms) → ((y : Slowest) → List·Memᴰ y (loads c s n ms) → y .response ≤ most)
@@ -51,6 +51,10 @@ module _ (s : List ℕ) (b : Board) (costs : IsCosts s b) where
   c : Chain
   c = chainOf s b
 
+  -- no plan's single-block time is above 23,000,000 ticks, and a core weighs more (M-104)
+  pub quick : Quick (chainOf s b)
+  quick = record { time = λ ms k. omega (arith, plan-block-time s b costs ms k) }
+
   pub below-top : (ms : List Module) → Keeps (problem (chainOf s b)) ms → planBottleneck (problem (chainOf s b)) ms .num * grain ≤ topThreshold
   unfolding c
   below-top ms h =
@@ -66,11 +70,11 @@ module _ (s : List ℕ) (b : Board) (costs : IsCosts s b) where
   unfolding c
   best-answer =
       best-searched c (costs .ranged .some-tasks)
-      ∙ answer-is (problem c) (problem-laws c) (isBetter c) (better-decides c (costs .ranged .some-tasks)) (problem-small c (costs .ranged .most-cores)) topThreshold below-top
+      ∙ answer-is (problem c) (problem-laws c quick) (isBetter c) (better-decides c (costs .ranged .some-tasks) quick) (problem-small c (costs .ranged .most-cores)) topThreshold below-top
 
   searched : Searched (problem c) (planWeight (problem c)) (bestPlan c)
   unfolding c
-  searched = rw best-answer (answer-best (problem c) (problem-laws c) (problem-small c (costs .ranged .most-cores)) topThreshold below-top)
+  searched = rw best-answer (answer-best (problem c) (problem-laws c quick) (problem-small c (costs .ranged .most-cores)) topThreshold below-top)
 
   comes-first : (x y : List Module) → Keeps (problem c) x → Keeps (problem c) y → Beats (planBottleneck (problem c)) (planWeight (problem c)) x y → ComesFirst c x y
   unfolding Beats ComesFirst c
@@ -81,14 +85,12 @@ module _ (s : List ℕ) (b : Board) (costs : IsCosts s b) where
       let q = bottleneck c y in
       let z = planBottleneck (problem c) x in
       let w = planBottleneck (problem c) y in
-      let u = plain-weight (problem c) (problem-plain c) 0 0 x in
-      let v = plain-weight (problem c) (problem-plain c) 0 0 y in
       elim h [
         | inl l ↦ inl (less-same (z .num) (z .den) (p .response) (p .copies) (w .num) (w .den) (q .response) (q .copies) (f .divided) (f .copied) (g .divided) (g .copied) (sym (f .same)) (sym (g .same)) l)
         | inr (e, l) ↦ inr (
           more-same (z .num) (z .den) (p .response) (p .copies) (w .num) (w .den) (q .response) (q .copies) (f .divided) (f .copied) (g .divided) (g .copied) (sym (f .same)) (sym (g .same)) (omega arith),
           more-same (w .num) (w .den) (q .response) (q .copies) (z .num) (z .den) (p .response) (p .copies) (g .divided) (g .copied) (f .divided) (f .copied) (sym (g .same)) (sym (f .same)) (omega arith),
-          elim l [ inl d ↦ inl (omega arith) | inr (d, o) ↦ inr (omega arith, o) ],
+          weight-order c quick x y kx ky l,
         )
       ]
 

@@ -26,11 +26,11 @@ use Rattle.search.specs.Best.{light, plan, Feasible, Bottom}
 use Rattle.search.specs.Answer.{answer}
 use Rattle.search.proofs.Best.{plan-keeps}
 use Rattle.search.proofs.Answer.{finds}
-use Rattle.planners.specs.Search.{problem, topThreshold, Sized, Holds, AllReached}
+use Rattle.planners.specs.Search.{problem, noPlan, topThreshold, Sized, Holds, AllReached}
 use Rattle.planners.specs.Best.{workWords, isBetter, bestPlan, foundAnswer, foundBytes, begins, bestAnswer, bestBytes, bestWork}
 use Rattle.planners.proofs.Cells.{chain-cap, cells-few}
-use Rattle.planners.proofs.Instance.{problem-laws, problem-small, keeps-rules, better-decides, best-searched}
-use Rattle.planners.proofs.Optimal.{best-answer}
+use Rattle.planners.proofs.Instance.{problem-priced, problem-laws, problem-small, keeps-rules, better-decides, best-searched}
+use Rattle.planners.proofs.Optimal.{quick, best-answer}
 
 -- a list of one number reads as that number, also past its end
 one-number : (n j a : ℕ) → getD (replicate n a) j a ≡ a
@@ -54,7 +54,7 @@ module _ (s : List ℕ) (b : Board) (costs : IsCosts s b) where
       record { sized = sized; long = omega (arith, cells-few sized); low = λ j. omega (arith, ap (λ (v : List ℕ). getD v j 0) e, one-number (length w) j 0) }
 
   -- no plan is within the greatest threshold
-  module _ {v : ℕ} (e : v ≡ light (problem (chainOf s b)) topThreshold) (h : b .cores < v) where
+  module _ {v : ℕ} (e : v ≡ light (problem (chainOf s b)) topThreshold) (h : noPlan (b .cores) ≤ v) where
     none-found : bestPlan (chainOf s b) ≡ none
     unfolding answer
     none-found =
@@ -74,10 +74,10 @@ module _ (s : List ℕ) (b : Board) (costs : IsCosts s b) where
     plan-found : bestPlan (chainOf s b) ≡ some (plan (problem (chainOf s b)) n)
     plan-found =
         best-searched (chainOf s b) (costs .ranged .some-tasks)
-        ∙ finds (problem (chainOf s b)) (problem-laws (chainOf s b)) (isBetter (chainOf s b)) (better-decides (chainOf s b) (costs .ranged .some-tasks)) (problem-small (chainOf s b) (costs .ranged .most-cores)) n feasible bottom
+        ∙ finds (problem (chainOf s b)) (problem-laws (chainOf s b) (quick s b costs)) (isBetter (chainOf s b)) (better-decides (chainOf s b) (costs .ranged .some-tasks) (quick s b costs)) (problem-small (chainOf s b) (costs .ranged .most-cores)) n feasible bottom
 
     plan-kept : keepsRules (chainOf s b) (plan (problem (chainOf s b)) n) ≡ true
-    plan-kept = let c = chainOf s b in keeps-rules c (plan (problem c) n) (plan-keeps (problem c) (problem-laws c) n feasible)
+    plan-kept = let c = chainOf s b in keeps-rules c (plan (problem c) n) (plan-keeps (problem c) (problem-priced c) n feasible)
 
     plan-said : modulesOf path (b .tasks) ≡ plan (problem (chainOf s b)) n
     plan-said =

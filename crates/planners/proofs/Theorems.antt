@@ -1,6 +1,6 @@
 -- Demand 3: for all costs, plan bytes and work areas with which a search begins (accepted costs, buffers large enough, whatever
--- they held), over layer 2's rules, bottleneck, cores and module order, with every list of modules as a rival. `bestAnswer` and
--- `bestBytes` are what the promise of `best_plan` says of its answer and of the plan bytes. Assumes nothing.
+-- they held), over layer 2's rules, bottleneck, cores, single-block time and module order, with every list of modules as a rival.
+-- `bestAnswer` and `bestBytes` are what the promise of `best_plan` says of its answer and of the plan bytes. Assumes nothing.
 use mathlib.Core.Path.{_≡_}
 use mathlib.Core.Bool.{true}
 use mathlib.Core.List.{List}
@@ -28,7 +28,7 @@ module _ (s w work : List ℕ) (began : begins s w work ≡ true) where
   refuses-exactly = (outcomes.refused-none s w work began (outcomes.outcome s w work began), outcomes.none-of s w work began (outcomes.outcome s w work began))
 
   -- the plan filled in keeps the rules and comes before every plan that does: smaller bottleneck, or equal and fewer cores, or equal
-  -- and earlier in module order (`Filled`, `ComesFirst`)
+  -- and smaller single-block time (M-104), or equal and earlier in module order (`Filled`, `ComesFirst`)
   pub fills-best : bestAnswer s w work .number ≡ 0 → (a : List Module) × Filled s w work a
   fills-best = outcomes.plan-of s w work began (outcomes.outcome s w work began)
 

@@ -1,5 +1,5 @@
--- Best plan (document 01, "Three services"): the definition tries every plan. Least bottleneck, then fewest cores, then module
--- order. Assumes nothing.
+-- Best plan (document 01, "Three services"; document 02, M-104): the definition tries every plan. Least bottleneck, then fewest cores,
+-- then least single-block time, then module order. Assumes nothing.
 use Prim.Native.Nat.{ℕ, _*_}
 use mathlib.Core.List.{List, _++_}
 use mathlib.Core.Option.{Option, none, some}
@@ -11,22 +11,26 @@ use Rattle.modules.specs.declared.Module.{Module}
 use Rattle.modules.specs.Model.{Chain, chainOf}
 use Rattle.layout.specs.Layout.{planBytes, encodePlan}
 use Rattle.figures.specs.declared.Answer.{Answer}
-use Rattle.figures.specs.Model.{coresOf, bottleneck}
+use Rattle.figures.specs.Model.{coresOf, bottleneck, blockTime}
 use Rattle.figures.specs.Rules.{keepsRules}
 use Rattle.figures.specs.Plan.{figuresOf, refusal}
 use Rattle.search.specs.Every.{every, scan}
 
--- the words that the work area must have
+-- the words that the work area must have; M-104: it "is as large as before"
 abbrev pub workWords : ℕ
 workWords = 16384
 
--- a has a smaller bottleneck than b, as exact fractions, or an equal one and fewer cores
+-- a has fewer cores than b, or as many and a smaller single-block time (M-104)
+unfoldable pub isLighter : Chain → List Module → List Module → Bool
+isLighter c a b = ltb (coresOf a) (coresOf b) || (eqb (coresOf a) (coresOf b) && ltb (blockTime c a) (blockTime c b))
+
+-- a has a smaller bottleneck than b, as exact fractions, or an equal one and is lighter
 unfoldable pub isBetter : Chain → List Module → List Module → Bool
 isBetter c a b =
     let x = bottleneck c a in
     let y = bottleneck c b in
     ltb (x .response * y .copies) (y .response * x .copies)
-    || (eqb (x .response * y .copies) (y .response * x .copies) && ltb (coresOf a) (coresOf b))
+    || (eqb (x .response * y .copies) (y .response * x .copies) && isLighter c a b)
 
 -- of all plans of at most P cores in module order, the first of the best that keep the rules
 unfoldable pub bestPlan : Chain → Option (List Module)

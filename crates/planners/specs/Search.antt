@@ -1,5 +1,5 @@
 -- A chain as a problem of the search, and what the planner's own functions hand on. Assumes nothing.
-use Prim.Native.Nat.{ℕ, _+_, _*_, _≤_, _<_}
+use Prim.Native.Nat.{ℕ, _+_, _-_, _*_, _≤_, _<_}
 use mathlib.Core.Path.{_≡_}
 use mathlib.Core.List.{List, List·Memᴰ}
 use mathlib.Core.Bool.{Bool, true, false, cond}
@@ -7,11 +7,11 @@ use lib.ListN.{length, getD}
 use lib.Dec.{eqb}
 use Rattle.records.specs.declared.Board.{Board}
 use Rattle.modules.specs.declared.Module.{Module}
-use Rattle.modules.specs.Model.{Chain, response, transfer, body}
+use Rattle.modules.specs.Model.{Chain, response, transfer, body, passage}
 use Rattle.modules.specs.Rules.{moduleRules, copiesAllowed}
 use Rattle.modules.specs.Reach.{reach}
 use Rattle.search.specs.Least.{pick}
-use Rattle.search.specs.Plan.{Problem}
+use Rattle.search.specs.Plan.{Measure, Problem}
 use Rattle.search.specs.Walk.{Room, choice}
 use Rattle.search.specs.Best.{fitsAt}
 use Rattle.search.specs.Flat.{cells, readTable}
@@ -21,7 +21,19 @@ use Rattle.planners.specs.declared.path.Passed.{Passed}
 abbrev pub grain : ℕ
 grain = 1024
 
--- the modules that keep the rules, their response, and their cores as price
+-- M-104: what one core weighs, 2²⁵, more than the single-block time of any plan that keeps the rules
+abbrev pub unit : ℕ
+unit = 33554432
+
+-- what the module of tasks t + 1 to l adds to the single-block time, before one of q cores
+abbrev pub ticks : Chain → Measure
+ticks c s t l r p q = passage c (t + 1) l r p q
+
+-- its price: its cores, and what it adds to the single-block time
+abbrev pub price : Chain → (t l r p q : ℕ) → ℕ
+price c t l r p q = unit * (r * p) + passage c (t + 1) l r p q
+
+-- the modules that keep the rules, their response, and their price
 abbrev pub problem : Chain → Problem
 problem c = record {
   tasks = c .tasks;
@@ -29,13 +41,25 @@ problem c = record {
   allowed = λ s t l r p q. moduleRules c (t + 1) l r p;
   response = λ s t l r p q. response c s (t + 1) l r p q;
   grain = grain;
-  unit = 1;
-  price = λ s t l r p q. r * p;
+  unit = unit;
+  price = λ s t l r p q. price c t l r p q;
 }
 
 -- a problem of which only the size counts
 abbrev pub ofSize : ℕ → ℕ → Problem
-ofSize k p = record { tasks = k; board = p; allowed = λ s t l r p q. false; response = λ s t l r p q. 0; grain = grain; unit = 1; price = λ s t l r p q. r * p }
+ofSize k p = record {
+  tasks = k;
+  board = p;
+  allowed = λ s t l r p q. false;
+  response = λ s t l r p q. 0;
+  grain = grain;
+  unit = unit;
+  price = λ s t l r p q. unit * (r * p);
+}
+
+-- what stands for "none" on a board of p cores: more than any plan on it weighs
+abbrev pub noPlan : ℕ → ℕ
+noPlan p = unit * (p + 1)
 
 -- the greatest threshold: no response is above 23,000,000 ticks
 abbrev pub topThreshold : ℕ
@@ -52,7 +76,7 @@ pub record Sized (b : Board) : Type 0 where
 pub record Holds (b : Board) (w : List ℕ) : Type 0 where
   pub sized : Sized b
   pub long : cells (ofSize (b .tasks) (b .cores)) ≤ length w
-  pub low : (j : ℕ) → getD w j 0 ≤ b .cores + 1
+  pub low : (j : ℕ) → getD w j 0 ≤ noPlan (b .cores)
 
 -- ---- M-102: no response is worked out for a module beyond its reach
 
@@ -82,18 +106,22 @@ pub record Placed (b : Board) (n s t q : ℕ) : Type 0 where
   pub some-cores : 1 ≤ q
   pub room : s + q ≤ b .cores
 
--- what is known of the module up to task l: it ends within its reach, in one copy it keeps the rules, what it takes before it sends,
--- and whether it may have copies
-pub record Loaded (c : Chain) (s t q l base : ℕ) (rep : Bool) : Type 0 where
+-- what is known of the module up to task l: it ends within its reach, in one copy it keeps the rules, what it takes before it sends, its
+-- body alone, and whether it may have copies
+pub record Loaded (c : Chain) (s t q l base stay : ℕ) (rep : Bool) : Type 0 where
   pub reached : Reached c t l
   pub keeps : moduleRules c (t + 1) l 1 q ≡ true
-  pub taken : base ≡ transfer c t s q + body c (t + 1) l q
+  pub taken : base ≡ transfer c t s q + stay
+  pub stays : stay ≡ body c (t + 1) l q
   pub low : base < 17592186044416
   pub replicable : rep ≡ copiesAllowed c (t + 1) l 2
 
--- the room that a module leaves: none before the first
+-- the room that a module leaves for one of q cores: what was left before it, less its price; before the first all that is left
 unfoldable pub roomOf : Chain → ℕ → Passed → Room
-roomOf c n m q = cond (eqb (m .last) 0) (m .left) (pick (fitsAt (problem c) n (m .before) (m .from) (m .last) (m .copies) (m .cores) q) (m .left) 0)
+roomOf c n m q =
+    let fits = fitsAt (problem c) n (m .before) (m .from) (m .last) (m .copies) (m .cores) q in
+    let own = price c (m .from) (m .last) (m .copies) (m .cores) q in
+    cond (eqb (m .last) 0) (m .left) (pick fits (m .left - own) 0)
 
 -- ---- the walk
 

@@ -1,4 +1,4 @@
-// Document 01's Best plan: least bottleneck, then fewest cores, then module order.
+// Document 01's Best plan: least bottleneck, then fewest cores, then least single-block time (document 02, M-104), then module order.
 ghost use mathlib.Core.Path.{_≡_};
 ghost use Prim.Native.Nat.{_≤_};
 ghost use lib.ListN.{length, replicate};
@@ -8,10 +8,11 @@ ghost use Rattle.layout.specs.Layout.{planBytes, modulesOf};
 ghost use Rattle.figures.specs.Plan.{figuresOf};
 ghost use Rattle.planners.specs.Best.{workWords, bestPlan, foundAnswer, foundBytes, bestAnswer, bestBytes, bestWork};
 ghost use Rattle.planners.specs.Search.{AllReached};
-use crate::bisect::cores_within;
 use crate::bisect::least_threshold;
+use crate::bisect::weight_within;
 use crate::path::lay_path;
 use crate::reaches::each_reach;
+use crate::table::no_plan;
 use figures::Answer;
 use figures::refuse;
 use layout::PLAN_BYTES;
@@ -48,16 +49,16 @@ fn search(costs: &[u8], board: Board, plan: &mut [u8], work: &mut [u32]) -> Answ
         × (now (plan .exit) ≡ foundBytes (bestPlan (chainOf (now (costs .entry)) board)) (now (plan .entry)))
         × (length (now (work .exit)) ≡ length (now (work .entry))) ⌝ }
 {
-    let most = board.cores as u32;
+    let none = no_plan(board.cores);
     let reaches = each_reach(costs, board);
-    let some = cores_within(costs, board, reaches, work, TOP);
-    if most < some {
+    let some = weight_within(costs, board, reaches, work, TOP);
+    if none <= some {
         return refuse(9, 0);
     }
     let n = least_threshold(costs, board, reaches, work, TOP);
-    let cores = cores_within(costs, board, reaches, work, n);
+    let weight = weight_within(costs, board, reaches, work, n);
     let mut path = [0u8; PLAN_BYTES];
-    lay_path(costs, board, reaches, work, n, cores, &mut path);
+    lay_path(costs, board, reaches, work, n, weight, &mut path);
     put_plan(path, plan);
     figures_of(costs, board, path)
 }

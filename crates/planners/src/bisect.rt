@@ -8,11 +8,12 @@ ghost use Rattle.search.specs.Flat.{Filled};
 ghost use Rattle.planners.specs.Search.{problem, topThreshold, Holds, EachReach};
 use crate::reaches::MOST_TASKS;
 use crate::table::fill_table;
-use crate::table::least_cores;
+use crate::table::least_weight;
+use crate::table::no_plan;
 use records::Board;
 
-// The table of the threshold n, and the least cores of a plan within n.
-pub(crate) fn cores_within(
+// The table of the threshold n, and the least weight of a plan within n.
+pub(crate) fn weight_within(
     costs: &[u8],
     board: Board,
     reaches: [u8; MOST_TASKS],
@@ -25,7 +26,7 @@ pub(crate) fn cores_within(
         × Filled (problem (chainOf (now (costs .entry)) board)) (fitsAt (problem (chainOf (now (costs .entry)) board)) n) (now (work .exit)) 0 ⌝ }
 {
     fill_table(costs, board, reaches, work, n);
-    least_cores(costs, board, reaches, work, n)
+    least_weight(costs, board, reaches, work, n)
 }
 
 // By bisection, where some plan is within top.
@@ -41,12 +42,13 @@ pub(crate) fn least_threshold(
     ensures { λ r. ⌜ (r ≤ top) × Feasible (problem (chainOf (now (costs .entry)) board)) r × Bottom (problem (chainOf (now (costs .entry)) board)) r
         × Holds board (now (work .exit)) × (length (now (work .exit)) ≡ length (now (work .entry))) ⌝ }
 {
+    let none = no_plan(board.cores);
     let mut lo: u64 = 0;
     let mut hi = top;
     while lo < hi {
         let mid = lo + (hi - lo) / 2;
-        let cores = cores_within(costs, board, reaches, work, mid);
-        if cores <= (board.cores as u32) {
+        let weight = weight_within(costs, board, reaches, work, mid);
+        if weight < none {
             hi = mid;
         } else {
             lo = mid + 1;

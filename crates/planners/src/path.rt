@@ -7,14 +7,15 @@ ghost use Rattle.layout.specs.Layout.{encodePlan};
 ghost use Rattle.search.specs.Best.{fitsAt, light, tableAt, plan as planOf};
 ghost use Rattle.search.specs.Flat.{readTable, Filled};
 ghost use Rattle.search.specs.Walk.{choice as choiceOf, chosen, goesOn};
-ghost use Rattle.planners.specs.Search.{problem, topThreshold, Sized, Holds, Reached, EachReach, PassedReached, roomOf, FirstCores, FirstCopies, SomeNext};
+ghost use Rattle.planners.specs.Search.{price as priceOf, problem, noPlan, topThreshold, Sized, Holds, Reached, EachReach, PassedReached, roomOf, FirstCores, FirstCopies, SomeNext};
 use crate::reaches::MOST_TASKS;
 use crate::table::GRAIN;
+use crate::table::UNIT;
 use crate::table::read_table;
 use modules::Module;
 use records::Board;
 
-// The module that the walk has passed: in its place, with its copies and cores, and what was left at its cores less its own.
+// The module that the walk has passed: in its place, with its copies and cores, and what was left for it and all after it.
 pub(crate) struct Passed {
     pub before: u8,
     pub from: u8,
@@ -53,7 +54,23 @@ fn fits_at(costs: &[u8], board: Board, n: u64, s: u8, t: u8, l: u8, r: u8, p: u8
     response * GRAIN <= n * (r as u64)
 }
 
-// What is left for a module of q cores and all after it, one more than its cores may be.
+// What the module of tasks t + 1 to l, which ends within its reach, weighs before one of q cores (document 02, M-104): its cores, and what
+// it adds to the single-block time.
+fn price(costs: &[u8], board: Board, t: u8, l: u8, r: u8, p: u8, q: u8) -> u64
+    requires { ⌜ Reached (chainOf (now costs) board) t l ⌝ }
+    ensures { λ x. ⌜ (x ≡ priceOf (chainOf (now (costs .entry)) board) t l r p q) × (x < 17592186044416) ⌝ }
+{
+    let m = Module {
+        first: t + 1,
+        last: l,
+        copies: r,
+        cores: p,
+    };
+    let ticks = modules::passage(costs, board, m, q);
+    (UNIT as u64) * ((r as u64) * (p as u64)) + ticks
+}
+
+// What is left for a module of q cores and all after it, one more than they may weigh.
 fn room_of(costs: &[u8], board: Board, n: u64, m: Passed, q: u8) -> u32
     requires { ⌜ Sized board × (n ≤ topThreshold) × PassedReached (chainOf (now costs) board) m ⌝ }
     ensures { λ r. ⌜ r ≡ roomOf (chainOf (now (costs .entry)) board) n m q ⌝ }
@@ -72,12 +89,16 @@ fn room_of(costs: &[u8], board: Board, n: u64, m: Passed, q: u8) -> u32
         m.cores,
         q,
     ) {
-        return m.left;
+        let own = price(costs, board, m.from, m.last, m.copies, m.cores, q);
+        if own < (m.left as u64) {
+            return m.left - (own as u32);
+        }
     }
     0
 }
 
-// Whether the module l r p fits where the next has q cores, and there is room for it and the lightest rest.
+// Whether the module l r p fits where the next has q cores, and there is room for it and the lightest rest. What its cores weigh decides
+// on most modules, before a body is added up.
 fn goes_on(
     costs: &[u8],
     board: Board,
@@ -95,9 +116,13 @@ fn goes_on(
     ensures { λ x. ⌜ x ≡ goesOn (problem (chainOf (now (costs .entry)) board)) (fitsAt (problem (chainOf (now (costs .entry)) board)) n)
         (readTable (problem (chainOf (now (costs .entry)) board)) (now (work .entry))) s t (λ _. room) l r p q ⌝ }
 {
-    let rest = read_table(work, board, p, l, q);
-    let weight = (r as u32) * (p as u32) + rest;
-    if room <= weight {
+    let rest = read_table(work, board, p, l, q) as u64;
+    let cores = (UNIT as u64) * ((r as u64) * (p as u64));
+    if (room as u64) <= cores + rest {
+        return false;
+    }
+    let weight = price(costs, board, t, l, r, p, q) + rest;
+    if (room as u64) <= weight {
         return false;
     }
     fits_at(costs, board, n, s, t, l, r, p, q)
@@ -199,22 +224,22 @@ fn next_module(
     first_copies(costs, board, work, n, m, l)
 }
 
-// Fills blank plan bytes with the first plan of the fewest cores within n, from the table of n.
+// Fills blank plan bytes with the first of the lightest plans within n, from the table of n.
 pub(crate) fn lay_path(
     costs: &[u8],
     board: Board,
     reaches: [u8; MOST_TASKS],
     work: &[u32],
     n: u64,
-    cores: u32,
+    weight: u32,
     plan: &mut [u8],
 )
-    requires { ⌜ Holds board (now work) × (n ≤ topThreshold) × (cores ≡ light (problem (chainOf (now costs) board)) n) × (cores ≤ board .cores)
+    requires { ⌜ Holds board (now work) × (n ≤ topThreshold) × (weight ≡ light (problem (chainOf (now costs) board)) n) × (weight < noPlan (board .cores))
         × Filled (problem (chainOf (now costs) board)) (fitsAt (problem (chainOf (now costs) board)) n) (now work) 0 × (now plan ≡ encodePlan [])
         × EachReach (chainOf (now costs) board) reaches ⌝ }
     ensures { λ _. ⌜ now (plan .exit) ≡ encodePlan (planOf (problem (chainOf (now (costs .entry)) board)) n) ⌝ }
 {
-    let left = cores + 1;
+    let left = weight + 1;
     let mut m = Passed {
         before: 0,
         from: 0,
@@ -227,7 +252,6 @@ pub(crate) fn lay_path(
     while m.last < board.tasks {
         let x = next_module(costs, board, reaches, work, n, m);
         let room = room_of(costs, board, n, m, x.cores);
-        let rest = room - (x.copies as u32) * (x.cores as u32);
         layout::put_module(plan, i, x);
         let next = Passed {
             before: m.cores,
@@ -235,7 +259,7 @@ pub(crate) fn lay_path(
             last: x.last,
             copies: x.copies,
             cores: x.cores,
-            left: rest,
+            left: room,
         };
         m = next;
         i += 1;

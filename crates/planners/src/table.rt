@@ -1,5 +1,5 @@
-// The table of a threshold: the least cores of a plan of the tasks that are left, one word for each kind 5 record in the same
-// order, filled from its end. One more than the board's cores stands for "none".
+// The table of a threshold: the least weight of a plan of the tasks that are left, one word for each kind 5 record in the same order,
+// filled from its end. A plan weighs UNIT for each core, and its single-block time (document 02, M-104).
 ghost use mathlib.Core.Path.{_≡_};
 ghost use mathlib.Core.Bool.{true};
 ghost use Prim.Native.Nat.{_+_, _≤_, _<_};
@@ -12,12 +12,23 @@ ghost use Rattle.search.specs.Copies.{fewest};
 ghost use Rattle.search.specs.Weight.{overCopies, overNext, overLast};
 ghost use Rattle.search.specs.Best.{fitsAt, light};
 ghost use Rattle.search.specs.Flat.{readTable, cells, cell, Filled};
-ghost use Rattle.planners.specs.Search.{problem, ofSize, topThreshold, Holds, Placed, Reached, EachReach, Loaded};
+ghost use Rattle.planners.specs.Search.{problem, ofSize, noPlan, topThreshold, Holds, Placed, Reached, EachReach, Loaded};
 use crate::reaches::MOST_TASKS;
 use records::Board;
 
 // Fractions whose denominators are at most 32 are equal or at least 1/1024 apart.
 pub(crate) const GRAIN: u64 = 1024;
+
+// What one core weighs: more than the single-block time of any plan, so that cores count first.
+pub(crate) const UNIT: u32 = 33554432;
+
+// What stands for "none" on a board of so many cores: more than any plan on it weighs.
+pub(crate) fn no_plan(cores: u8) -> u32
+    requires { ⌜ cores ≤ 32 ⌝ }
+    ensures { λ r. ⌜ r ≡ noPlan cores ⌝ }
+{
+    UNIT * ((cores as u32) + 1)
+}
 
 fn lesser(a: u32, b: u32) -> u32
     ensures { λ r. ⌜ r ≡ lesserOf a b ⌝ }
@@ -45,17 +56,17 @@ fn fewest_copies(rep: bool, one: u64, more: u64, n: u64) -> u64
 // The table after a module of s cores and task t, where the next module has q cores.
 pub(crate) fn read_table(work: &[u32], board: Board, s: u8, t: u8, q: u8) -> u32
     requires { ⌜ Holds board (now work) × (1 ≤ s) × (s ≤ board .cores) × (1 ≤ t) × (t ≤ board .tasks) × (q ≤ board .cores) ⌝ }
-    ensures { λ r. ⌜ (r ≡ readTable (ofSize (board .tasks) (board .cores)) (now (work .entry)) s t q) × (r ≤ board .cores + 1) ⌝ }
+    ensures { λ r. ⌜ (r ≡ readTable (ofSize (board .tasks) (board .cores)) (now (work .entry)) s t q) × (r ≤ noPlan (board .cores)) ⌝ }
 {
     let cores = board.cores as usize;
     if t == board.tasks {
         if q == 0 {
             return 0;
         }
-        return (board.cores as u32) + 1;
+        return no_plan(board.cores);
     }
     if q == 0 {
-        return (board.cores as u32) + 1;
+        return no_plan(board.cores);
     }
     let row = ((t as usize) - 1) * cores + ((s as usize) - 1);
     let i = row * cores + ((q as usize) - 1);
@@ -74,15 +85,16 @@ fn over_copies(
     l: u8,
     q2: u8,
     base: u64,
+    stay: u64,
     rep: bool,
 ) -> u32
-    requires { ⌜ Holds board (now work) × Placed board n s t q × Loaded (chainOf (now costs) board) s t q l base rep × (q2 ≤ board .cores) ⌝ }
+    requires { ⌜ Holds board (now work) × Placed board n s t q × Loaded (chainOf (now costs) board) s t q l base stay rep × (q2 ≤ board .cores) ⌝ }
     ensures { λ r. ⌜ (r ≡ overCopies (problem (chainOf (now (costs .entry)) board)) (fitsAt (problem (chainOf (now (costs .entry)) board)) n)
-        (readTable (problem (chainOf (now (costs .entry)) board)) (now (work .entry))) s t q l q2) × (r ≤ board .cores + 1) ⌝ }
+        (readTable (problem (chainOf (now (costs .entry)) board)) (now (work .entry))) s t q l q2) × (r ≤ noPlan (board .cores)) ⌝ }
 {
-    let cores = board.cores as u32;
-    let none = cores + 1;
-    let load = (base + (modules::transfer(costs, board, l, q, q2) as u64)) * GRAIN;
+    let none = no_plan(board.cores);
+    let sent = modules::transfer(costs, board, l, q, q2) as u64;
+    let load = (base + sent) * GRAIN;
     let r = fewest_copies(rep, load, load, n);
     if r < 1 {
         return none;
@@ -90,31 +102,33 @@ fn over_copies(
     if (board.cores as u64) < r {
         return none;
     }
-    let price = (r as u32) * (q as u32);
-    if cores < (s as u32) + price + (q2 as u32) {
+    let cores = (r as u32) * (q as u32);
+    if (board.cores as u32) < (s as u32) + cores + (q2 as u32) {
         return none;
     }
+    let ticks = (stay + sent) as u32;
     let rest = read_table(work, board, q, l, q2);
-    lesser(none, price + rest)
+    lesser(none, UNIT * cores + ticks + rest)
 }
 
 // And over the cores of the module after it, where it ends within its reach and in one copy keeps the rules.
 fn over_next(costs: &[u8], board: Board, work: &[u32], n: u64, s: u8, t: u8, q: u8, l: u8) -> u32
     requires { ⌜ Holds board (now work) × Placed board n s t q × Reached (chainOf (now costs) board) t l × (moduleRules (chainOf (now costs) board) (t + 1) l 1 q ≡ true) ⌝ }
     ensures { λ r. ⌜ (r ≡ overNext (problem (chainOf (now (costs .entry)) board)) (fitsAt (problem (chainOf (now (costs .entry)) board)) n)
-        (readTable (problem (chainOf (now (costs .entry)) board)) (now (work .entry))) s t q l) × (r ≤ board .cores + 1) ⌝ }
+        (readTable (problem (chainOf (now (costs .entry)) board)) (now (work .entry))) s t q l) × (r ≤ noPlan (board .cores)) ⌝ }
 {
     let received = modules::transfer(costs, board, t, s, q) as u64;
-    let base = received + modules::body(costs, board, t + 1, l, q);
+    let stay = modules::body(costs, board, t + 1, l, q);
+    let base = received + stay;
     let rep = modules::copies_allowed(costs, board, t + 1, l, 2);
     if l == board.tasks {
-        return over_copies(costs, board, work, n, s, t, q, l, 0, base, rep);
+        return over_copies(costs, board, work, n, s, t, q, l, 0, base, stay, rep);
     }
     let end = board.cores - (s + q);
-    let mut m = (board.cores as u32) + 1;
+    let mut m = no_plan(board.cores);
     let mut i: u8 = 1;
     while i <= end {
-        let v = over_copies(costs, board, work, n, s, t, q, l, i, base, rep);
+        let v = over_copies(costs, board, work, n, s, t, q, l, i, base, stay, rep);
         m = lesser(m, v);
         i += 1;
     }
@@ -126,9 +140,9 @@ fn over_next(costs: &[u8], board: Board, work: &[u32], n: u64, s: u8, t: u8, q: 
 fn over_last(costs: &[u8], board: Board, end: u8, work: &[u32], n: u64, s: u8, t: u8, q: u8) -> u32
     requires { ⌜ Holds board (now work) × Placed board n s t q × (end ≡ reach (chainOf (now costs) board) (t + 1)) ⌝ }
     ensures { λ r. ⌜ (r ≡ overLast (problem (chainOf (now (costs .entry)) board)) (fitsAt (problem (chainOf (now (costs .entry)) board)) n)
-        (readTable (problem (chainOf (now (costs .entry)) board)) (now (work .entry))) s t q) × (r ≤ board .cores + 1) ⌝ }
+        (readTable (problem (chainOf (now (costs .entry)) board)) (now (work .entry))) s t q) × (r ≤ noPlan (board .cores)) ⌝ }
 {
-    let mut m = (board.cores as u32) + 1;
+    let mut m = no_plan(board.cores);
     let mut sum: u64 = 0;
     let mut l = t + 1;
     while l <= end {
@@ -156,7 +170,7 @@ fn cell_at(
     requires { ⌜ Holds board (now work) × (n ≤ topThreshold) × (m < cells (problem (chainOf (now costs) board)))
         × Filled (problem (chainOf (now costs) board)) (fitsAt (problem (chainOf (now costs) board)) n) (now work) (m + 1)
         × EachReach (chainOf (now costs) board) reaches ⌝ }
-    ensures { λ r. ⌜ (r ≡ cell (problem (chainOf (now (costs .entry)) board)) (fitsAt (problem (chainOf (now (costs .entry)) board)) n) m) × (r ≤ board .cores + 1) ⌝ }
+    ensures { λ r. ⌜ (r ≡ cell (problem (chainOf (now (costs .entry)) board)) (fitsAt (problem (chainOf (now (costs .entry)) board)) n) m) × (r ≤ noPlan (board .cores)) ⌝ }
 {
     let cores = board.cores as u32;
     let square = cores * cores;
@@ -167,7 +181,7 @@ fn cell_at(
         let end = reaches[t as usize];
         return over_last(costs, board, end, work, n, s as u8, t as u8, q as u8);
     }
-    cores + 1
+    no_plan(board.cores)
 }
 
 // The whole table of the threshold n, from its end.
@@ -193,8 +207,8 @@ pub(crate) fn fill_table(
     }
 }
 
-// The least cores of a plan within the threshold n, from its table.
-pub(crate) fn least_cores(
+// The least weight of a plan within the threshold n, from its table.
+pub(crate) fn least_weight(
     costs: &[u8],
     board: Board,
     reaches: [u8; MOST_TASKS],
@@ -204,10 +218,10 @@ pub(crate) fn least_cores(
     requires { ⌜ Holds board (now work) × (n ≤ topThreshold)
         × Filled (problem (chainOf (now costs) board)) (fitsAt (problem (chainOf (now costs) board)) n) (now work) 0
         × EachReach (chainOf (now costs) board) reaches ⌝ }
-    ensures { λ r. ⌜ (r ≡ light (problem (chainOf (now (costs .entry)) board)) n) × (r ≤ board .cores + 1) ⌝ }
+    ensures { λ r. ⌜ (r ≡ light (problem (chainOf (now (costs .entry)) board)) n) × (r ≤ noPlan (board .cores)) ⌝ }
 {
     let end = reaches[0];
-    let mut m = (board.cores as u32) + 1;
+    let mut m = no_plan(board.cores);
     let mut q: u8 = 1;
     while q <= board.cores {
         let v = over_last(costs, board, end, work, n, 0, 0, q);

@@ -1,5 +1,5 @@
 -- What a service that only fills an output answers (document 01, "Three services"), or one that answers a single number (document 02,
--- M-102). Assumes nothing.
+-- M-102, M-104). Assumes nothing.
 use Prim.Native.Nat.{ℕ}
 use Rattle.records.specs.declared.Filled.{Filled}
 

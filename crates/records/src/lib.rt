@@ -36,7 +36,8 @@ pub struct Refusal {
 }
 
 // What a service that only fills an output answers (document 01, "Three services"): how many bytes or entries it has filled in, or a
-// refusal's number and place, with count 0. For a reach (document 02, M-102) the count is the reach.
+// refusal's number and place, with count 0. For a reach (document 02, M-102) the count is the reach, for a
+// single-block time (M-104) the time.
 #[repr(C)]
 pub struct Filled {
     pub refusal: u32,

@@ -82,7 +82,7 @@ module _ (X : Problem) where
     unfolding searchBy
     finds small n l b =
         let x = plan X n in
-        let h = plan-keeps X L n l in
+        let h = plan-keeps X (L .priced) n l in
         let w = best X L small n l b in
         scan-finds (keeps X) c x (keeps-in x h)
         (λ y t. not-T (c y x) (λ u.

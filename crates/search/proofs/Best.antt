@@ -10,7 +10,7 @@ use lib.Dec.{T, T-not}
 use Rattle.modules.specs.declared.Module.{Module}
 use Rattle.figures.specs.Model.{headCores}
 use Rattle.figures.specs.Plan.{Before}
-use Rattle.search.specs.Plan.{Problem, valid, cap}
+use Rattle.search.specs.Plan.{Problem, valid, cap, Priced}
 use Rattle.search.specs.Fraction.{Under, Same}
 use Rattle.search.specs.Bottleneck.{rules, within, planBottleneck, PlanWithin, Keeps, Small}
 use Rattle.search.specs.Order.{Beats}
@@ -26,49 +26,61 @@ use Rattle.search.proofs.Walk.{walk-is}
 pub fits-fair : (X : Problem) (n : ℕ) → Fair (X .tasks) (fitsAt X n)
 fits-fair X n = tight-fair (X .board) (within X n) (X .tasks) (within-fair X n)
 
-module _ (X : Problem) (L : Laws X) where
-  -- ---- the least weight
+module _ (X : Problem) where
+  -- the pruned rule loses no plan that keeps the board
+  pub prune : (n : ℕ) (b : List Module) → Keeps X b → PlanWithin X n b → T (valid (X .tasks) (fitsAt X n) 0 0 b)
+  prune n b h v = valid-tight (X .board) (within X n) (X .tasks) (within-fair X n) 0 0 b v (omega (arith, h .1))
 
+  module _ (A : Priced X) where
+    -- no plan within n that weighs less than the cap weighs less than the least
+    light-under : (n : ℕ) (b : List Module) → Keeps X b → PlanWithin X n b → planWeight X b < cap X → light X n ≤ planWeight X b
+    unfolding light
+    light-under n b h v w =
+        le-trans (least-le (cap X) (suc (X .board)) (tableAt X n 0 0) (headCores b)
+        (omega (arith, head-le (X .tasks) (rules X) (rules-fair X) 0 0 b (h .0), h .1)))
+        (table-le X (fitsAt X n) (fits-fair X n) A 0 0 b (prune n b h v) w)
+
+    -- ---- the plan of a feasible threshold
+
+    pub plan-is : (n : ℕ) → Feasible X n → First X (fitsAt X n) 0 0 (roomAt X n) (plan X n)
+    unfolding light plan
+    plan-is n h =
+        let (q, hq, e) = least-at (cap X) (suc (X .board)) (tableAt X n 0 0) h in
+        let a = attained X (fitsAt X n) (X .tasks) 0 0 q (omega arith) in
+        walk-is X (fitsAt X n) (tableAt X n) (fits-fair X n) A
+        (table-le X (fitsAt X n) (fits-fair X n) A) (attained X (fitsAt X n) (X .tasks))
+        (X .tasks) 0 0 (roomAt X n) (omega arith) (λ q. h) (a .modules) (record { ok = a .ok; light = omega (arith, a .weighs) })
+
+    module _ (n : ℕ) (feasible : Feasible X n) where
+      pub plan-within : PlanWithin X n (plan X n)
+      plan-within =
+          valid-map (X .tasks) (fitsAt X n) (within X n) (tight-fits (X .board) (within X n)) 0 0 (plan X n) (plan-is n feasible .fine .ok)
+
+      plan-light : planWeight X (plan X n) < cap X
+      plan-light = omega (arith, plan-is n feasible .fine .light)
+
+      pub plan-keeps : Keeps X (plan X n)
+      plan-keeps = (within-rules X n 0 0 (plan X n) plan-within, on-board X A 0 0 (plan X n) plan-light)
+
+      pub plan-weighs : planWeight X (plan X n) ≡ light X n
+      plan-weighs = omega (arith, plan-is n feasible .fine .light, light-under n (plan X n) plan-keeps plan-within plan-light)
+
+    -- above a feasible threshold all are feasible: its plan is within them too
+    pub feasible-more : (n m : ℕ) → n ≤ m → Feasible X n → Feasible X m
+    feasible-more n m e h =
+        let b = planBottleneck X (plan X n) in
+        let k = plan-keeps n h in
+        let u : Under (X .grain) m b = omega (arith, bottleneck-in X n 0 0 (plan X n) (plan-within n h), mul-le-mul-right (b .den) e) in
+        omega (arith, light-under m (plan X n) k (bottleneck-out X m 0 0 (plan X n) (k .0) u) (plan-light n h), plan-light n h)
+
+module _ (X : Problem) (L : Laws X) where
   -- a plan that keeps the board weighs less than the cap (the converse is on-board)
   pub board-weight : (ms : List Module) → Keeps X ms → planWeight X ms < cap X
   unfolding cap
   board-weight ms h = le-trans (L .level ms h) (mul-le-mul-left (X .unit) (omega (arith, h .1)))
 
-  -- the pruned rule loses no plan that keeps the board
-  pub prune : (n : ℕ) (b : List Module) → Keeps X b → PlanWithin X n b → T (valid (X .tasks) (fitsAt X n) 0 0 b)
-  prune n b h v = valid-tight (X .board) (within X n) (X .tasks) (within-fair X n) 0 0 b v (omega (arith, h .1))
-
   pub light-le : (n : ℕ) (b : List Module) → Keeps X b → PlanWithin X n b → light X n ≤ planWeight X b
-  unfolding light
-  light-le n b h v =
-      le-trans (least-le (cap X) (suc (X .board)) (tableAt X n 0 0) (headCores b)
-      (omega (arith, head-le (X .tasks) (rules X) (rules-fair X) 0 0 b (h .0), h .1)))
-      (table-le X (fitsAt X n) (fits-fair X n) (L .priced) 0 0 b (prune n b h v) (board-weight b h))
-
-  -- ---- the plan of a feasible threshold
-
-  pub plan-is : (n : ℕ) → Feasible X n → First X (fitsAt X n) 0 0 (roomAt X n) (plan X n)
-  unfolding light plan
-  plan-is n h =
-      let (q, hq, e) = least-at (cap X) (suc (X .board)) (tableAt X n 0 0) h in
-      let a = attained X (fitsAt X n) (X .tasks) 0 0 q (omega arith) in
-      walk-is X (fitsAt X n) (tableAt X n) (fits-fair X n) (L .priced)
-      (table-le X (fitsAt X n) (fits-fair X n) (L .priced)) (attained X (fitsAt X n) (X .tasks))
-      (X .tasks) 0 0 (roomAt X n) (omega arith) (λ q. h) (a .modules) (record { ok = a .ok; light = omega (arith, a .weighs) })
-
-  module _ (n : ℕ) (feasible : Feasible X n) where
-    pub plan-within : PlanWithin X n (plan X n)
-    plan-within =
-        valid-map (X .tasks) (fitsAt X n) (within X n) (tight-fits (X .board) (within X n)) 0 0 (plan X n) (plan-is n feasible .fine .ok)
-
-    pub plan-keeps : Keeps X (plan X n)
-    plan-keeps = (
-      within-rules X n 0 0 (plan X n) plan-within,
-      on-board X (L .priced) 0 0 (plan X n) (omega (arith, plan-is n feasible .fine .light)),
-    )
-
-    pub plan-weighs : planWeight X (plan X n) ≡ light X n
-    plan-weighs = omega (arith, plan-is n feasible .fine .light, light-le n (plan X n) plan-keeps plan-within)
+  light-le n b h v = light-under X (L .priced) n b h v (board-weight b h)
 
   -- ---- the plan of the least feasible threshold
 
@@ -78,27 +90,27 @@ module _ (X : Problem) (L : Laws X) where
     same-bottleneck zero b h d v u = threshold-zero X small (plan X n) b v u
     same-bottleneck (suc m) b h d v u =
         threshold X small m (λ ms g w. omega (arith, light-le m ms g w, board-weight ms g))
-        (plan X n) b (plan-keeps n feasible) h v u
+        (plan X n) b (plan-keeps X (L .priced) n feasible) h v u
 
     first-lightest : (b : List Module) → Keeps X b → PlanWithin X n b
         → (planWeight X (plan X n) < planWeight X b)
         ⊎ ((planWeight X (plan X n) ≡ planWeight X b) × ((plan X n ≡ b) ⊎ Before (plan X n) b))
     first-lightest b h v =
-        let w = plan-weighs n feasible in
+        let w = plan-weighs X (L .priced) n feasible in
         let l = light-le n b h v in
         let c : planWeight X (plan X n) ≤ planWeight X b = omega arith in
         elim (eq-or-lt-of-le c) [
           | inr d ↦ inl d
-          | inl e ↦ inr (e, plan-is n feasible .first b (record { ok = prune n b h v; light = omega arith }))
+          | inl e ↦ inr (e, plan-is X (L .priced) n feasible .first b (record { ok = prune X n b h v; light = omega arith }))
         ]
 
     pub best : (b : List Module) → Keeps X b → Beats (planBottleneck X) (planWeight X) (plan X n) b
     unfolding Beats
     best b h = elim (test (valid (X .tasks) (within X n) 0 0 b)) [
-      | passed v ↦ inr (same-bottleneck n b h bottom (plan-within n feasible) v, first-lightest b h v)
+      | passed v ↦ inr (same-bottleneck n b h bottom (plan-within X (L .priced) n feasible) v, first-lightest b h v)
       | failed v ↦
           let out : PlanWithin X n b → ⊥ = T-not (valid (X .tasks) (within X n) 0 0 b) v in
-          inl (beyond X small n (plan X n) b (plan-keeps n feasible) h (plan-within n feasible) out)
+          inl (beyond X small n (plan X n) b (plan-keeps X (L .priced) n feasible) h (plan-within X (L .priced) n feasible) out)
     ]
 
   -- ---- which thresholds are feasible
@@ -106,12 +118,6 @@ module _ (X : Problem) (L : Laws X) where
   -- each that is at least the bottleneck of a plan
   pub feasible-by : (n : ℕ) (b : List Module) → Keeps X b → Under (X .grain) n (planBottleneck X b) → Feasible X n
   feasible-by n b h u = omega (arith, light-le n b h (bottleneck-out X n 0 0 b (h .0) u), board-weight b h)
-
-  pub feasible-more : (n m : ℕ) → n ≤ m → Feasible X n → Feasible X m
-  feasible-more n m e h =
-      let b = planBottleneck X (plan X n) in
-      feasible-by m (plan X n) (plan-keeps n h)
-      (omega (arith, bottleneck-in X n 0 0 (plan X n) (plan-within n h), mul-le-mul-right (b .den) e))
 
   pub feasible-some : (n : ℕ) (b : List Module) → Keeps X b → planBottleneck X b .num * X .grain ≤ n → Feasible X n
   feasible-some n b h e = feasible-by n b h (omega (arith, le-mul-of-pos-right n (den-pos X 0 0 b (h .0))))

@@ -9,7 +9,7 @@ use mathlib.Core.List.{List}
 use Rattle.rounding.proofs.Laws.{rounded-least, rounded-reaches}
 use Rattle.records.proofs.Cases.{lt-or-le}
 use Rattle.modules.specs.declared.Module.{Module}
-use Rattle.search.specs.Plan.{Problem, cap}
+use Rattle.search.specs.Plan.{Problem, cap, Priced}
 use Rattle.search.specs.Fraction.{Under}
 use Rattle.search.specs.Bottleneck.{planBottleneck, Keeps}
 use Rattle.search.specs.Best.{light, plan, Feasible, Bottom, Laws}
@@ -29,13 +29,13 @@ module _ (X : Problem) where
   pub bracket-end : (lo hi : ℕ) → Bracket X lo hi → hi ≤ lo → Feasible X lo × Bottom X lo
   bracket-end lo hi b h = let e : hi ≡ lo = omega (arith, b .ordered) in (rw e at (b .feasible-hi), b .none-below)
 
-  module _ (L : Laws X) where
+  module _ (A : Priced X) where
     -- nothing feasible is below the lower end
     pub bottom-le : (lo n : ℕ) → Bottom X lo → Feasible X n → lo ≤ n
     bottom-le zero n b h = omega arith
     bottom-le (suc m) n b h = elim (lt-or-le m n) [
       | inl u ↦ u
-      | inr u ↦ absurd (omega (arith, feasible-more X L n m u h))
+      | inr u ↦ absurd (omega (arith, feasible-more X A n m u h))
     ]
 
     -- mid is feasible, or anything found so
@@ -47,8 +47,9 @@ module _ (X : Problem) where
     bracket-up lo hi mid b h =
         rw add-one (record { ordered = bottom-le (suc mid) hi h (b .feasible-hi); none-below = h; feasible-hi = b .feasible-hi })
 
-    -- ---- the variant: a plan takes the upper end down to the threshold of its own bottleneck
+  -- ---- the variant: a plan takes the upper end down to the threshold of its own bottleneck
 
+  module _ (L : Laws X) where
     pub threshold-feasible : (ms : List Module) → Keeps X ms → Feasible X (thresholdOf X ms)
     threshold-feasible ms h =
         let b = planBottleneck X ms in
@@ -60,13 +61,13 @@ module _ (X : Problem) where
         rounded-least (b .num * X .grain) (b .den) n (den-pos X 0 0 ms (h .0)) .1 u
 
     pub bracket-plan : (lo hi : ℕ) (ms : List Module) → Bracket X lo hi → Keeps X ms → Bracket X lo (thresholdOf X ms)
-    bracket-plan lo hi ms b h = bracket-down lo hi _ b (threshold-feasible ms h)
+    bracket-plan lo hi ms b h = bracket-down (L .priced) lo hi _ b (threshold-feasible ms h)
 
     -- so does the plan of mid, and not above mid
     pub bracket-jump : (lo hi mid : ℕ) → Bracket X lo hi → Feasible X mid
         → Bracket X lo (thresholdOf X (plan X mid)) × (thresholdOf X (plan X mid) ≤ mid)
     bracket-jump lo hi mid b h =
-        let k = plan-keeps X L mid h in (
+        let k = plan-keeps X (L .priced) mid h in (
           bracket-plan lo hi (plan X mid) b k,
-          threshold-le mid (plan X mid) k (bottleneck-in X mid 0 0 (plan X mid) (plan-within X L mid h)),
+          threshold-le mid (plan X mid) k (bottleneck-in X mid 0 0 (plan X mid) (plan-within X (L .priced) mid h)),
         )

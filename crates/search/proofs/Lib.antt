@@ -15,9 +15,9 @@ pub mod Least
 pub mod Loops
 pub mod Order
 pub mod Outcome
-pub mod Plain
 pub mod Plan
 pub mod Steps
 pub mod Tests
+pub mod Tiers
 pub mod Walk
 pub mod Weight

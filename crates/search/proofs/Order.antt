@@ -2,7 +2,6 @@
 -- By cases on the first place where two plans differ.
 use Prim.Native.Nat.{ℕ, _*_, _<_}
 use native.Mathlib.Omega.{arith}
-use mathlib.Core.Path.{_≡_}
 use mathlib.Core.Bool.{Bool, _&&_}
 use mathlib.Core.Logic.{inl, inr}
 use mathlib.Core.List.{List, [], _∷_}
@@ -81,11 +80,3 @@ pub beats-at-most : (f : List Module → Frac) (g : List Module → ℕ) (a b : 
 unfolding Beats
 beats-at-most f g a b (inl x) = omega arith
 beats-at-most f g a b (inr (x, h)) = omega arith
-
--- a measure that is the same for both compares them alike
-pub beats-measure : (f : List Module → Frac) (g h : List Module → ℕ) (a b : List Module) → g a ≡ h a → g b ≡ h b
-    → Beats f g a b → Beats f h a b
-unfolding Beats
-beats-measure f g h a b e d (inl x) = inl x
-beats-measure f g h a b e d (inr (x, inl y)) = inr (x, inl (omega arith))
-beats-measure f g h a b e d (inr (x, inr (y, z))) = inr (x, inr (omega arith, z))

@@ -47,7 +47,7 @@ module _ (X : Problem) (L : Laws X) (small : Small X) (U : ℕ)
       let g = ltb→lt (light X U) (cap X) u in
       let n = firstFeasible X U in
       let f = first-has X U g in
-      best-plan (plan X n) refl (record { keeps = plan-keeps X L n f; beats = best X L small n f (first-bottom X U n g refl) }))
+      best-plan (plan X n) refl (record { keeps = plan-keeps X (L .priced) n f; beats = best X L small n f (first-bottom X U n g refl) }))
       (λ u. no-plan refl (λ y k. omega (arith, nltb→le (light X U) (cap X) u, feasible-some X L U y k (bound y k))))
 
   pub outcome : Outcome X (bottleneckOf X (answer X U))

@@ -9,10 +9,10 @@ use mathlib.Core.List.{List, [], _∷_, _++_, append-nil, append-assoc}
 use lib.Dec.{T, eqb, eqb-refl}
 use Rattle.modules.specs.declared.Module.{Module}
 use Rattle.search.specs.Least.{pick}
-use Rattle.search.specs.Plan.{Rule, Problem, moduleAfter, of}
+use Rattle.search.specs.Plan.{Rule, Problem, moduleAfter, of, Priced}
 use Rattle.search.specs.Weight.{Table}
 use Rattle.search.specs.Walk.{Room, choice, chosen, roomAfter, walk, Fine}
-use Rattle.search.specs.Best.{fitsAt, tableAt, roomAt, plan, Feasible, Laws}
+use Rattle.search.specs.Best.{fitsAt, tableAt, roomAt, plan, Feasible}
 use Rattle.search.specs.Loops.{Walking}
 use Rattle.search.proofs.Tests.{cond-yes, cond-no, ne→neqb}
 use Rattle.search.proofs.Plan.{fair-at}
@@ -54,7 +54,7 @@ chosen-found X fits rest s t room l r p hl hr hp u no-l no-r no-p =
 
 -- ---- the loop at a feasible threshold n
 
-module _ (X : Problem) (L : Laws X) (n : ℕ) where
+module _ (X : Problem) (A : Priced X) (n : ℕ) where
   pub walking-start : Feasible X n → Walking X n [] (X .tasks) 0 0 (roomAt X n)
   unfolding plan
   walking-start feasible = record {
@@ -62,7 +62,7 @@ module _ (X : Problem) (L : Laws X) (n : ℕ) where
     inside = omega arith;
     capped = λ q. feasible;
     so-far = refl;
-    fine = plan-is X L n feasible .fine;
+    fine = plan-is X A n feasible .fine;
   }
 
   pub walking-end : (done : List Module) (m s t : ℕ) (room : Room) → Walking X n done m s t room → X .tasks ≤ t → done ≡ plan X n
@@ -86,12 +86,12 @@ module _ (X : Problem) (L : Laws X) (n : ℕ) where
       bounds-here =
           let F = fits-fair X n in
           let h = le-trans (fine-here .light) (w .capped (y .cores)) in
-          let b = head-bounds X (fitsAt X n) F (L .priced) s t y ys (fine-here .ok) h in
+          let b = head-bounds X (fitsAt X n) F A s t y ys (fine-here .ok) h in
           (fair-at (X .tasks) (fitsAt X n) F s t y ys (fine-here .ok) .0, b .0, b .1, b .2)
 
       passes-here : T (choice X (fitsAt X n) (tableAt X n) s t room (y .last) (y .copies) (y .cores))
       passes-here =
-          is-choice X (fitsAt X n) (tableAt X n) (fits-fair X n) (L .priced) (table-le X (fitsAt X n) (fits-fair X n) (L .priced))
+          is-choice X (fitsAt X n) (tableAt X n) (fits-fair X n) A (table-le X (fitsAt X n) (fits-fair X n) A)
           (attained X (fitsAt X n) (X .tasks)) s t room y ys (w .capped) fine-here
 
       walking-here : Walking X n (done ++ (y ∷ [])) m (y .cores) (y .last) (roomAfter X (fitsAt X n) s t room y)

@@ -11,7 +11,7 @@ pub mod Least
 pub mod Loops
 pub mod Order
 pub mod Outcome
-pub mod Plain
 pub mod Plan
+pub mod Tiers
 pub mod Walk
 pub mod Weight

@@ -1,5 +1,5 @@
--- How two plans compare (document 01, "Three services": least bottleneck, then fewest cores, then module order): by a bottleneck f,
--- then by a measure g such as the cores, then in module order. Assumes nothing.
+-- How two plans compare (document 01, "Three services"; document 02, M-104: least bottleneck, then fewest cores, then least single-block
+-- time, then module order): by a bottleneck f, then by a measure g such as a weight of both, then in module order. Assumes nothing.
 use Prim.Native.Nat.{ℕ, _*_, _<_}
 use mathlib.Core.Path.{_≡_}
 use mathlib.Core.Bool.{Bool, _&&_, _||_}

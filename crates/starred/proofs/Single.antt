@@ -12,10 +12,10 @@ use Rattle.rounding.specs.Rounding.{roundedUp}
 use Rattle.fields.specs.Fields.{valueAt}
 use Rattle.lookups.specs.Lookups.{within, hasNext, cellOf, needOf, replicableOf, limitOf, executionOf, internalOf, pairPlace, pairOf, externalOf}
 use Rattle.modules.specs.declared.Module.{Module}
-use Rattle.modules.specs.Model.{Chain, chainOf, run, gather, body, transfer, response}
+use Rattle.modules.specs.Model.{Chain, chainOf, run, gather, body, transfer, response, passage}
 use Rattle.modules.specs.Rules.{share, shares, memoryFits, tighter, limitFrom, moduleLimit, allows, withinLimit, fewestFrom, fewestCores}
 use Rattle.layout.specs.Layout.{recordOf, countFrom, moduleCount, modulesFrom, modulesOf, putModule}
-use Rattle.figures.specs.Model.{responses, coresOf, slowerOf, slowestFrom, bottleneck}
+use Rattle.figures.specs.Model.{responses, coresOf, slowerOf, slowestFrom, bottleneck, blockTime}
 use Rattle.figures.specs.Plan.{figuresOf, responseAt}
 use Rattle.starred.specs.Dock.{smallDock, fixedDock}
 use Rattle.starred.specs.Cases.{figures, one, two}
@@ -196,6 +196,18 @@ each-response :
 unfolding valueAt within hasNext cellOf executionOf internalOf pairPlace pairOf externalOf run gather body transfer response countFrom moduleCount modulesFrom modulesOf responses responseAt smallDock
 each-response = (refl, refl, refl, refl, refl)
 
+-- M-104: their single-block times, in which copies don't enter and the external transfer of 2 is once
+times :
+    (blockTime dock (modulesOf (one 1 2 2 2) 2) ≡ 18)
+    × (blockTime dock (modulesOf (one 1 2 1 2) 2) ≡ 18)
+    × (blockTime dock (modulesOf (two 1 1 2 1 2 2 1 2) 2) ≡ 24)
+    × (blockTime dock (modulesOf (one 1 2 1 1) 2) ≡ 33)
+    × (blockTime dock (modulesOf (two 1 1 2 1 2 2 1 3) 2) ≡ 22)
+    × (blockTime dock (modulesOf (two 1 2 2 2 2 2 1 1) 2) ≡ 18)
+    × (blockTime dock [] ≡ 0)
+unfolding valueAt within hasNext cellOf executionOf internalOf pairPlace pairOf externalOf run gather body transfer passage countFrom moduleCount modulesFrom modulesOf blockTime smallDock
+times = (refl, refl, refl, refl, refl, refl, refl)
+
 -- ---- plan bytes
 
 -- modules are counted up to the one that ends at k, here 2, 1 and 3; twelve where none does
@@ -266,3 +278,15 @@ rising-responses :
     × (response rising 0 4 6 1 5 0 ≡ 15925)
 unfolding run gather body transfer response responses
 rising-responses = (refl, refl, refl, refl, refl, refl, refl)
+
+-- M-104: the sums of these responses less the external transfers
+rising-times :
+    (blockTime rising twelve ≡ 740147)
+    × (blockTime rising (four 1 12 1 32 ∷ []) ≡ 85336)
+    × (blockTime rising (four 1 12 4 8 ∷ []) ≡ 84784)
+    × (blockTime rising (four 1 6 1 20 ∷ four 7 12 1 12 ∷ []) ≡ 146364)
+    × (blockTime rising (four 1 6 1 12 ∷ four 7 12 1 20 ∷ []) ≡ 145572)
+    × (passage rising 4 6 1 5 7 ≡ 76432)
+    × (passage rising 4 6 9 5 0 ≡ 15925)
+unfolding run gather body transfer passage blockTime
+rising-times = (refl, refl, refl, refl, refl, refl, refl)

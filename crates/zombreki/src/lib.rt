@@ -1,5 +1,5 @@
 // The services for C and Rust callers, under plain names: Judge, Bench way and Best plan (document 01, "Three services"), filling in
-// costs from laws (document 02, M-101) and a task's reach (M-102).
+// costs from laws (document 02, M-101), a task's reach (M-102) and a plan's single-block time (M-104).
 //
 // A slice crosses as a pointer and a count of elements. No function has a `requires`: each answers for every content and length.
 // include/zombreki.h declares them for C, and says what no proof covers.
@@ -7,6 +7,7 @@ ghost use mathlib.Core.Path.{_≡_};
 ghost use Prim.Native.Nat.{_<_};
 ghost use Rattle.modules.specs.Reach.{reachAnswer};
 ghost use Rattle.judge.specs.Judge.{judged};
+ghost use Rattle.judge.specs.Timed.{blockTimeAnswer};
 ghost use Rattle.greedy.specs.Greedy.{greedyAnswer, greedyBytes};
 ghost use Rattle.planners.specs.Best.{bestAnswer, bestBytes, bestWork};
 ghost use Rattle.fitted.specs.Fill.{fillAnswer, fillBytes};
@@ -84,4 +85,12 @@ pub extern "C" fn zombreki_reach(costs: &[u8], first: u8) -> Filled
     ensures { λ r. ⌜ r ≡ reachAnswer (now (costs .entry)) first ⌝ }
 {
     modules::read_reach(costs, first)
+}
+
+// The single-block time of plan bytes that Judge passes.
+#[no_mangle]
+pub extern "C" fn zombreki_block_time(costs: &[u8], plan: &[u8]) -> Filled
+    ensures { λ r. ⌜ r ≡ blockTimeAnswer (now (costs .entry)) (now (plan .entry)) ⌝ }
+{
+    judge::block_time(costs, plan)
 }

@@ -20,6 +20,7 @@ pub fn set(chain: &mut Chain, kind: Kind, random: &mut Random) {
         }
         Kind::Reaches => return set_around_board(chain, random),
         Kind::Shares => return set_split(chain, random),
+        Kind::BlockTimes => return set_a_core_each(chain, random),
         Kind::NoPlan => board,
         Kind::Hidden => 0,
         Kind::TightLimits => board / 3 + random.below(board / 2 + 1),
@@ -151,5 +152,17 @@ fn set_split(chain: &mut Chain, random: &mut Random) {
     };
     for need in &mut chain.needs {
         *need = random.pick(&needs);
+    }
+}
+
+/// Any tasks, as many as the board has cores for, fill a core each: a module takes as many cores as it has of them, or a little
+/// more. The others need nothing.
+fn set_a_core_each(chain: &mut Chain, random: &mut Random) {
+    // shares come out even on 1 to 10 and on 12 cores
+    chain.capacity = 2_520;
+    let mut tasks: Vec<usize> = (0..chain.tasks).collect();
+    for _ in 0..chain.tasks.min(chain.cores) {
+        let task = tasks.swap_remove(random.below(tasks.len()));
+        chain.needs[task] = chain.capacity;
     }
 }

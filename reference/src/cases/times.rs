@@ -12,7 +12,7 @@ pub fn set_drawn(chain: &mut Chain, kind: Kind, random: &mut Random) {
         _ => &[3, 20, 1_000, MOST_VALUE],
     });
     let cores = chain.cores;
-    for times in all_times(chain) {
+    for times in chain.times_mut() {
         for (i, time) in times.iter_mut().enumerate() {
             *time = drawn(kind, scale, i % cores + 1, random);
         }
@@ -36,9 +36,62 @@ pub fn set_even(chain: &mut Chain, random: &mut Random) {
     }
 }
 
-fn all_times(chain: &mut Chain) -> [&mut Vec<u32>; 3] {
-    let (executions, internals) = (&mut chain.executions, &mut chain.internals);
-    [executions, internals, &mut chain.externals]
+/// Plans of equal bottleneck and cores whose single-block times differ: half of the time by two tasks that have copies or cores,
+/// where there are tasks and cores for that; else by what goes with one slow task.
+pub fn set_equal(chain: &mut Chain, random: &mut Random) {
+    let scale = random.pick(&[1, 5_000]);
+    if chain.tasks > 2 && chain.cores > chain.tasks + 1 && random.once_in(2) {
+        set_pair(chain, scale, random);
+    } else {
+        set_slow_task(chain, scale, random);
+    }
+}
+
+/// Few values, so that external transfers are often the cheaper ones. One task takes more than all others and all transfers. It
+/// and each external transfer to or from it take the same at all counts of cores.
+fn set_slow_task(chain: &mut Chain, scale: u32, random: &mut Random) {
+    for time in chain.times_mut().into_iter().flatten() {
+        *time = scale * random.value(3);
+    }
+    let (tasks, cores) = (chain.tasks, chain.cores);
+    let slow = random.below(tasks);
+    chain.executions[slow * cores..][..cores].fill(scale * 8 * tasks as u32);
+    let pairs = chain.externals.chunks_exact_mut(cores * cores);
+    for (pair, times) in pairs.enumerate() {
+        if pair == slow || pair + 1 == slow {
+            times.fill(scale * random.value(1));
+        }
+    }
+}
+
+/// Beside a pair, in the scale's ticks: what the slow task takes, the most that the pair's external transfer does, and what no
+/// plan of the least bottleneck takes.
+const SLOW: u32 = 20;
+const SENT: u32 = 6;
+const TOO_MUCH: u32 = 5 * SLOW;
+
+/// The first or the last two tasks take nearly twice as long as a third one on one core, and less than that one on two: so that
+/// one of them has two copies and the other two cores, with an external transfer of a few ticks. No other task takes any time.
+fn set_pair(chain: &mut Chain, scale: u32, random: &mut Random) {
+    let (tasks, cores) = (chain.tasks, chain.cores);
+    let first = random.pick(&[0, tasks - 2]);
+    for task in [first, first + 1] {
+        let times = &mut chain.executions[task * cores..][..cores];
+        times.fill(scale * (SLOW - SENT - random.value(2)));
+        times[0] = scale * (2 * SLOW - SENT - random.value(2));
+    }
+    let slow = (first + random.within(2, tasks - 1)) % tasks;
+    chain.executions[slow * cores..][..cores].fill(scale * SLOW);
+    chain.flags[slow] = false;
+    let beside = if first == 0 { 1 } else { first - 1 };
+    for pair in [first, beside] {
+        chain.internals[pair * cores..][..cores].fill(scale * TOO_MUCH);
+    }
+    let times = &mut chain.externals[first * cores * cores..][..cores * cores];
+    times.fill(scale * TOO_MUCH);
+    times[0] = 0;
+    times[1] = scale * random.value(SENT);
+    times[cores] = scale * random.value(SENT);
 }
 
 fn drawn(kind: Kind, scale: u32, cores: usize, random: &mut Random) -> u32 {
@@ -102,7 +155,7 @@ pub fn set_realistic(chain: &mut Chain, random: &mut Random) {
 
 /// All times are the greatest but for those that one plan, within the board's cores, has.
 pub fn set_hidden(chain: &mut Chain, random: &mut Random) {
-    for times in all_times(chain) {
+    for times in chain.times_mut() {
         times.fill(MOST_VALUE);
     }
     let plan = some_plan(chain, random);

@@ -64,9 +64,6 @@ pub fn planned(
         kind: case.head_kind,
         costs,
     };
-    let both = Both {
-        expected: Box::new(chain),
-        found: Box::new(found.on(&file.costs)),
-    };
+    let both = Both::with(chain, found, &file.costs);
     all(&both, &file, tally)
 }

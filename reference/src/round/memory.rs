@@ -1,10 +1,9 @@
 //! Plans whose memory just suffices or does not (document 02, M-103), judged and compared, with a count of what the test before
 //! would have passed.
 
-use super::count;
 use crate::answer::Answer;
 use crate::cases::Case;
-use crate::compare::{self, Both, Difference};
+use crate::compare::{Both, Difference};
 use crate::costs::Chain;
 use crate::damage;
 use crate::greedy;
@@ -42,8 +41,7 @@ pub fn judged(
     let chain = case.chain();
     for _ in 0..6 {
         let plan = damage::tight_plan(&chain, random);
-        let answer = compare::judge(both, &plan)?;
-        count("judge", answer, tally);
+        let (answer, _) = super::judged(both, &plan, tally)?;
         if answer.refusal == 14 {
             let at_fault = plan::records(&plan)[answer.place as usize - 1];
             count_at_fault(&chain, at_fault, answer, tally);

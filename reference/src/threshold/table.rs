@@ -1,8 +1,8 @@
-//! The table of a threshold: the least cores of a plan of the tasks that are left, one word for each kind 5 record in the
-//! same order, filled from its end. One more than the board's cores stands for "none".
+//! The table of a threshold: the least weight of a plan of the tasks that are left, one word for each kind 5 record in the
+//! same order, filled from its end. The weight of one more than the board's cores stands for "none".
 
-use super::GRAIN;
 use super::lookup::Lookup;
+use super::{GRAIN, UNIT, none};
 
 /// Where a module begins: after task t and a module of s cores, with q cores of its own. No module before: t and s are 0.
 #[derive(Clone, Copy)]
@@ -25,14 +25,22 @@ fn fewest_copies(replicable: bool, load: u64, n: u64) -> u64 {
 
 /// The table after task t and a module of s cores, where the next module has q cores, 0 for none.
 pub fn read(costs: &Lookup, work: &[u32], s: usize, t: usize, q: usize) -> u32 {
-    let none = costs.cores as u32 + 1;
     if t == costs.tasks {
-        return if q == 0 { 0 } else { none };
+        return if q == 0 { 0 } else { none(costs) };
     }
     if q == 0 {
-        return none;
+        return none(costs);
     }
     work[((t - 1) * costs.cores + s - 1) * costs.cores + q - 1]
+}
+
+/// What a module takes whatever its copies and the next one's cores: before it sends, and of that its body; and whether it may
+/// have several copies.
+#[derive(Clone, Copy)]
+struct Fixed {
+    base: u64,
+    stay: u64,
+    replicable: bool,
 }
 
 /// The least over the copies of the module up to task l, before one of `next` cores.
@@ -42,33 +50,37 @@ fn over_copies(
     n: u64,
     place: Place,
     (l, next): (usize, usize),
-    (base, replicable): (u64, bool),
+    fixed: Fixed,
 ) -> u32 {
-    let cores = costs.cores as u32;
-    let none = cores + 1;
-    let load = (base + costs.transfer(l, place.q, next)) * GRAIN;
-    let r = fewest_copies(replicable, load, n);
+    let sent = costs.transfer(l, place.q, next);
+    let load = (fixed.base + sent) * GRAIN;
+    let r = fewest_copies(fixed.replicable, load, n);
     if r < 1 || r > costs.cores as u64 {
-        return none;
+        return none(costs);
     }
-    let price = r as u32 * place.q as u32;
-    if cores < place.s as u32 + price + next as u32 {
-        return none;
+    let cores = r as u32 * place.q as u32;
+    if (costs.cores as u32) < place.s as u32 + cores + next as u32 {
+        return none(costs);
     }
-    none.min(price + read(costs, work, place.q, l, next))
+    let price = cores * UNIT + (fixed.stay + sent) as u32;
+    none(costs).min(price + read(costs, work, place.q, l, next))
 }
 
 /// And over the cores of the module after it, where its memory fits and it is within its limit.
 fn over_next(costs: &Lookup, work: &[u32], n: u64, place: Place, l: usize) -> u32 {
     let Place { s, t, q } = place;
-    let base = costs.transfer(t, s, q) + costs.body(t + 1, l, q);
-    let module = (base, costs.copies_allowed(t + 1, l));
+    let stay = costs.body(t + 1, l, q);
+    let fixed = Fixed {
+        base: costs.transfer(t, s, q) + stay,
+        stay,
+        replicable: costs.copies_allowed(t + 1, l),
+    };
     if l == costs.tasks {
-        return over_copies(costs, work, n, place, (l, 0), module);
+        return over_copies(costs, work, n, place, (l, 0), fixed);
     }
-    let mut least = costs.cores as u32 + 1;
+    let mut least = none(costs);
     for next in 1..=costs.cores - (s + q) {
-        least = least.min(over_copies(costs, work, n, place, (l, next), module));
+        least = least.min(over_copies(costs, work, n, place, (l, next), fixed));
     }
     least
 }
@@ -76,7 +88,7 @@ fn over_next(costs: &Lookup, work: &[u32], n: u64, place: Place, l: usize) -> u3
 /// And over its last task within its reach, up to the first that has too low a limit or with whose share the cores hold too much:
 /// one cell of the table.
 fn over_last(costs: &Lookup, work: &[u32], n: u64, place: Place) -> u32 {
-    let mut least = costs.cores as u32 + 1;
+    let mut least = none(costs);
     let mut shares = 0;
     for l in place.t + 1..=costs.reach_after(place.t) {
         shares += costs.share(l, place.q);
@@ -100,7 +112,7 @@ fn cell(costs: &Lookup, work: &[u32], n: u64, index: usize) -> u32 {
     if place.s + place.q <= cores {
         return over_last(costs, work, n, place);
     }
-    cores as u32 + 1
+    none(costs)
 }
 
 /// The whole table of the threshold n.
@@ -110,9 +122,9 @@ pub fn fill(costs: &Lookup, work: &mut [u32], n: u64) {
     }
 }
 
-/// The least cores of a plan within the threshold n, from its table.
-pub fn least_cores(costs: &Lookup, work: &[u32], n: u64) -> u32 {
-    let mut least = costs.cores as u32 + 1;
+/// The least weight of a plan within the threshold n, from its table.
+pub fn least_weight(costs: &Lookup, work: &[u32], n: u64) -> u32 {
+    let mut least = none(costs);
     for q in 1..=costs.cores {
         let place = Place { s: 0, t: 0, q };
         least = least.min(over_last(costs, work, n, place));

@@ -1,8 +1,8 @@
 //! The walk: module by module, the first in module order after which the rest still fits in what is left.
 
-use super::GRAIN;
 use super::lookup::Lookup;
 use super::table;
+use super::{GRAIN, UNIT};
 use crate::plan::{self, Module, PLAN_BYTES};
 
 /// The threshold and its table.
@@ -12,7 +12,7 @@ struct Within<'a> {
     n: u64,
 }
 
-/// The module that the walk has passed, the cores of the one before it, and what is left after it, plus one.
+/// The module that the walk has passed, the cores of the one before it, and what was left before its own price, plus one.
 #[derive(Clone, Copy)]
 struct Passed {
     before: usize,
@@ -41,21 +41,42 @@ impl Within<'_> {
         response * GRAIN <= self.n * copies as u64
     }
 
-    /// What is left for a module of q cores and all after it, plus one.
-    fn room(&self, passed: Passed, q: usize) -> u32 {
-        if passed.module.last == 0 || self.fits(passed.before, passed.module, q) {
-            return passed.left;
-        }
-        0
+    /// What the module weighs before one of q cores: its cores, its body and what it sends. The board has so many cores.
+    fn price(&self, module: Module, q: usize) -> u32 {
+        let stay = self.costs.body(module.first, module.last, module.cores);
+        let sent = self.costs.transfer(module.last, module.cores, q);
+        (module.copies * module.cores) as u32 * UNIT + (stay + sent) as u32
     }
 
-    /// Whether the module may come next: for some cores of the one after it, it fits and so does the lightest rest.
+    /// What is left for a module of q cores and all after it, plus one; 0 where the module that is passed cannot stand before it.
+    fn room(&self, passed: Passed, q: usize) -> u32 {
+        if passed.module.last == 0 {
+            return passed.left;
+        }
+        if !self.fits(passed.before, passed.module, q) {
+            return 0;
+        }
+        passed.left.saturating_sub(self.price(passed.module, q))
+    }
+
+    /// Whether the module, in this room and before one of q cores, fits and leaves enough for the lightest rest.
+    fn goes_on(&self, s: usize, room: u32, module: Module, q: usize) -> bool {
+        let rest = table::read(self.costs, self.work, module.cores, module.last, q);
+        let cores = (module.copies * module.cores) as u64;
+        if u64::from(room) <= cores * u64::from(UNIT) + u64::from(rest) {
+            return false;
+        }
+        if room <= self.price(module, q) + rest {
+            return false;
+        }
+        self.fits(s, module, q)
+    }
+
+    /// Whether the module may come next: it goes on with some cores of the one after it.
     fn may_come(&self, passed: Passed, module: Module) -> bool {
         let room = self.room(passed, module.cores);
-        let price = (module.copies * module.cores) as u32;
         for q in 0..=self.costs.cores {
-            let rest = table::read(self.costs, self.work, module.cores, module.last, q);
-            if price + rest < room && self.fits(passed.module.cores, module, q) {
+            if self.goes_on(passed.module.cores, room, module, q) {
                 return true;
             }
         }
@@ -84,8 +105,8 @@ impl Within<'_> {
     }
 }
 
-/// The first plan in module order of so many cores within n, from the table of n.
-pub fn lay_path(costs: &Lookup, work: &[u32], n: u64, cores: u32) -> [u8; PLAN_BYTES] {
+/// The first plan in module order of this weight within n, from the table of n.
+pub fn lay_path(costs: &Lookup, work: &[u32], n: u64, weight: u32) -> [u8; PLAN_BYTES] {
     let within = Within { costs, work, n };
     let mut path = Vec::new();
     let mut passed = Passed {
@@ -96,7 +117,7 @@ pub fn lay_path(costs: &Lookup, work: &[u32], n: u64, cores: u32) -> [u8; PLAN_B
             copies: 0,
             cores: 0,
         },
-        left: cores + 1,
+        left: weight + 1,
     };
     while passed.module.last < costs.tasks {
         let module = within.next_module(passed);
@@ -105,7 +126,7 @@ pub fn lay_path(costs: &Lookup, work: &[u32], n: u64, cores: u32) -> [u8; PLAN_B
         passed = Passed {
             before: passed.module.cores,
             module,
-            left: room - (module.copies * module.cores) as u32,
+            left: room,
         };
     }
     plan::encode(&path)

@@ -42,11 +42,14 @@ pub enum Call {
     Reach {
         first: u8,
     },
+    BlockTime {
+        plan: Vec<u8>,
+    },
 }
 
 impl Call {
-    /// Whether such a call can be due that: Judge no plan, a planner a plan with its figures, only a reach a reach, and `read` none
-    /// of these.
+    /// Whether such a call can be due that: Judge no plan, a planner a plan with its figures, only a reach a reach, only a block
+    /// time a time, and `read` none of these.
     pub fn suits(&self, due: &Due) -> bool {
         match due {
             Due::Accepted => matches!(self, Call::Read),
@@ -54,6 +57,7 @@ impl Call {
             Due::Figures(_) => matches!(self, Call::Judge { .. }),
             Due::Plan(..) => matches!(self, Call::Greedy { .. } | Call::Best { .. }),
             Due::Reach(_) => matches!(self, Call::Reach { .. }),
+            Due::Time(_) => matches!(self, Call::BlockTime { .. }),
         }
     }
 }
@@ -65,6 +69,10 @@ pub fn parse(text: &str) -> Result<Call, String> {
     if let Some(plan) = text.strip_prefix("judge ") {
         let plan = judged_bytes(plan)?;
         return Ok(Call::Judge { plan });
+    }
+    if let Some(plan) = text.strip_prefix("block time of ") {
+        let plan = judged_bytes(plan)?;
+        return Ok(Call::BlockTime { plan });
     }
     if let Some(rest) = text.strip_prefix("bench way ") {
         let (grouping, plan) = split_if(rest, " into ");

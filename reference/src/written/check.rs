@@ -8,7 +8,9 @@ use super::fill;
 use super::laws::Lawful;
 use super::{Costs, Planned};
 use crate::answer::{Answer, Filled};
+use crate::costs::Chain;
 use crate::plan::PLAN_BYTES;
+use crate::round::dynamic::expect_least;
 use crate::services::{LIBRARY, Planner, QUICK_REFERENCE, REFERENCE, Services};
 use crate::{costs, laws};
 
@@ -25,24 +27,24 @@ struct Given {
     work: Vec<u32>,
 }
 
-/// The library and the second planner give what the text says: the planner that tries all plans where there are not too many,
-/// and the one that searches as the library does. Costs that are given as laws are also planned from these, without bytes,
-/// unless the call would try too many plans.
+/// The library and the second planner give what the text says: the planner that searches as the library does, and the one that
+/// tries all plans, or where there are too many for it the dynamic programs. Costs that are given as laws are also planned from
+/// these, without bytes, unless the call would try too many plans.
 pub fn agree(case: &Planned) -> Result<(), String> {
     let chain = match &case.costs {
         Costs::Records(bytes) => costs::read(bytes),
         Costs::Laws(Lawful { head, laws }) => laws::chain(head, laws),
     };
-    let few_plans = match &chain {
-        Ok(chain) => chain.tasks <= 5 && chain.cores <= 10,
-        Err(_) => true,
-    };
+    let few_plans = chain.as_ref().map_or(true, has_few_plans);
     let mut providers = vec![("library", &LIBRARY), ("quick reference", &QUICK_REFERENCE)];
     if few_plans {
         providers.push(("reference", &REFERENCE));
     }
     for (name, services) in providers {
         held(services, case).map_err(|what| format!("the {name}: {what}"))?;
+    }
+    if let (Ok(chain), false, Call::Best { .. }) = (&chain, few_plans, &case.call) {
+        least(chain, &case.due)?;
     }
     let tries_all = matches!(case.call, Call::Best { .. } | Call::Read);
     match chain {
@@ -51,6 +53,21 @@ pub fn agree(case: &Planned) -> Result<(), String> {
         }
         _ => Ok(()),
     }
+}
+
+/// Whether all plans can be tried.
+fn has_few_plans(chain: &Chain) -> bool {
+    chain.tasks <= 2 || chain.cores <= 4 || (chain.tasks <= 5 && chain.cores <= 10)
+}
+
+/// A due plan has the bottleneck, the cores and the single-block time that the dynamic programs find; with 9 these find no plan.
+fn least(chain: &Chain, due: &Due) -> Result<(), String> {
+    let (answer, time) = match due {
+        Due::Plan(plan, answer) => (*answer, chain.block_time(plan).count),
+        Due::Refusal(refusal) if refusal.number == 9 => ((*refusal).into(), 0),
+        _ => return Ok(()),
+    };
+    expect_least(chain, answer, time).map_err(|difference| difference.what)
 }
 
 /// One provider gives what the text says; where the costs are laws, on what it fills in from them.
@@ -82,26 +99,31 @@ fn served(planner: &dyn Planner, case: &Planned) -> Result<(), String> {
         }
         Call::Reach { first } => {
             let reached = planner.reach(*first);
-            same("answer", &[reach_due(&case.due)], &[reached])
+            same("answer", &[filled_due(&case.due)], &[reached])
+        }
+        Call::BlockTime { plan } => {
+            let timed = planner.block_time(plan);
+            same("answer", &[filled_due(&case.due)], &[timed])
         }
     }
 }
 
 /// All services refuse so, or none refuses the costs.
 fn read(planner: &dyn Planner, case: &Planned) -> Result<(), String> {
-    let judged = planner.judge(&[0; PLAN_BYTES]);
+    let blank = [0; PLAN_BYTES];
+    let judged = planner.judge(&blank);
     let greedy = greedy(planner, 0, PLAN);
     let best = best(planner, PLAN, WORK);
-    let reached = planner.reach(1);
     let answers = [judged, greedy.answer, best.answer];
+    let (reached, timed) = (planner.reach(1), planner.block_time(&blank));
     if let Due::Accepted = case.due {
-        let refusals = answers.map(|answer| answer.refusal);
+        let refusals = answers.iter().map(|answer| answer.refusal);
         let is_accepted = |refusal| !(1..=6).contains(&refusal);
-        if refusals.into_iter().all(is_accepted) && reached.refusal == 0 {
+        if refusals.chain([timed.refusal]).all(is_accepted) && reached.refusal == 0 {
             return Ok(());
         }
         return Err(format!(
-            "accepted costs are due, not {answers:?}, {reached:?}"
+            "accepted costs are due, not {answers:?}, {reached:?}, {timed:?}"
         ));
     }
     same(
@@ -109,7 +131,11 @@ fn read(planner: &dyn Planner, case: &Planned) -> Result<(), String> {
         &[answer_due(&case.due); 3],
         &answers,
     )?;
-    same("answer of reach", &[reach_due(&case.due)], &[reached])?;
+    same(
+        "answers of reach and block time",
+        &[filled_due(&case.due); 2],
+        &[reached, timed],
+    )?;
     left(&case.due, PLAN, NO_WORK, &greedy)?;
     left(&case.due, PLAN, WORK, &best)
 }
@@ -143,18 +169,15 @@ pub fn lent<T: Copy>(lent: Lent<T>) -> Vec<T> {
 
 fn answer_due(due: &Due) -> Answer {
     match due {
-        Due::Accepted | Due::Reach(_) => Answer::default(),
+        Due::Accepted | Due::Reach(_) | Due::Time(_) => Answer::default(),
         Due::Refusal(refusal) => (*refusal).into(),
         Due::Figures(answer) | Due::Plan(_, answer) => *answer,
     }
 }
 
-fn reach_due(due: &Due) -> Filled {
+fn filled_due(due: &Due) -> Filled {
     match due {
-        Due::Reach(reach) => Filled {
-            count: *reach,
-            ..Filled::default()
-        },
+        Due::Reach(count) | Due::Time(count) => Filled::counted(*count),
         Due::Refusal(refusal) => (*refusal).into(),
         Due::Accepted | Due::Figures(_) | Due::Plan(..) => Filled::default(),
     }
@@ -169,7 +192,7 @@ fn left(due: &Due, plan: Lent<u8>, work: Lent<u32>, given: &Given) -> Result<(),
     let searched = match due {
         Due::Plan(..) => true,
         Due::Refusal(refusal) => refusal.number == 9,
-        Due::Accepted | Due::Figures(_) | Due::Reach(_) => false,
+        Due::Accepted | Due::Figures(_) | Due::Reach(_) | Due::Time(_) => false,
     };
     if searched {
         words[MARGIN..MARGIN + work.length].fill(0);

@@ -14,6 +14,8 @@ pub enum Due {
     Plan([u8; PLAN_BYTES], Answer),
     /// The last task within reach, or 0.
     Reach(u32),
+    /// The single-block time.
+    Time(u32),
 }
 
 pub fn parse(text: &str) -> Result<Due, String> {
@@ -25,6 +27,9 @@ pub fn parse(text: &str) -> Result<Due, String> {
     }
     if let Some([reach]) = matched("reach #", text) {
         return Ok(Due::Reach(reach));
+    }
+    if let Some([time]) = matched("time #", text) {
+        return Ok(Due::Time(time));
     }
     let Some(rest) = text.strip_prefix("plan ") else {
         return Ok(Due::Figures(figures(text)?));

@@ -62,11 +62,7 @@ fn records(head: &[u8], due: &str) -> Result<(Filled, Vec<u8>), String> {
     for change in values.into_iter().flat_map(|values| values.split(", ")) {
         costs::change_values(&mut bytes, change)?;
     }
-    let filled = Filled {
-        count,
-        ..Filled::default()
-    };
-    Ok((filled, bytes))
+    Ok((Filled::counted(count), bytes))
 }
 
 /// The library and the second planner give what the text says.

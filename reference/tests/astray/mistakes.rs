@@ -1,5 +1,6 @@
 //! The wrong planners: document 01's "Where a plan goes astray", then "Before anyone tests", then mistakes in what is lent, then
-//! those about core limits and about memory; and wrong programs that fill in costs from laws, or that find reaches.
+//! those about core limits, about memory and about single-block times; and wrong programs that fill in costs from laws, or that
+//! find reaches.
 
 mod judges;
 pub mod laws;
@@ -8,6 +9,7 @@ mod memory;
 pub mod reaches;
 mod ruled;
 pub mod searches;
+pub mod times;
 
 use reference::answer::{Answer, Refusal};
 use reference::compare::Difference;
@@ -79,11 +81,12 @@ const fn in_judge(what: &'static str, judge: fn(&[u8], &[u8]) -> Answer) -> Mist
     Mistake::new(what, "judge", Services { judge, ..REFERENCE })
 }
 
-/// All wrong planners, and the programs that find reaches by a wrong test of memory.
+/// All wrong planners, the programs that find reaches by a wrong test of memory, and those that give wrong single-block times.
 pub fn planners() -> impl Iterator<Item = Mistake> {
     let base = MISTAKES.into_iter().chain(limits::MISTAKES);
     base.chain(reaches::searches::MISTAKES)
         .chain(memory::mistakes())
+        .chain(times::mistakes())
 }
 
 const MISTAKES: [Mistake; 27] = [

@@ -14,7 +14,7 @@ use reference::tally::Tally;
 
 /// How the best plan is another than by needs added up; it is never a better one.
 fn best_plan(chain: &Chain) -> &'static str {
-    let former = every::search_by(FORMER, plan::bottleneck, chain);
+    let former = every::search_by(FORMER, every::ORDER, chain);
     match (former, every::search(chain)) {
         (None, None) => "none, nor before",
         (None, Some(_)) => panic!("a plan where there was none"),

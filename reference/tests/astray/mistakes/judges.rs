@@ -54,7 +54,5 @@ pub fn receiver_loads(chain: &Chain, plan: &[Module]) -> Vec<Load> {
 pub fn judged_modules(costs: &[u8], plan: &[u8]) -> (Chain, Vec<Module>) {
     let chain = costs::read(costs).expect("it was accepted");
     let bytes = plan.first_chunk::<PLAN_BYTES>().expect("it was judged");
-    let used = plan::records(bytes).into_iter();
-    let modules = used.take_while(|module| module.cores > 0).collect();
-    (chain, modules)
+    (chain, plan::used(bytes))
 }

@@ -2,13 +2,13 @@
 
 use reference::answer::Answer;
 use reference::costs::Chain;
-use reference::plan::{self, Module, Rules};
+use reference::plan::{Module, Rules};
 use reference::{every, greedy};
 
 pub use reference::judge::judge_by as judge;
 
 pub fn best_plan(rules: Rules, costs: &[u8], plan: &mut [u8], work: &mut [u32]) -> Answer {
-    let search = |chain: &Chain| every::search_by(rules, plan::bottleneck, chain);
+    let search = |chain: &Chain| every::search_by(rules, every::ORDER, chain);
     every::best_plan_by(search, costs, plan, work)
 }
 

@@ -1,53 +1,92 @@
 //! Searches that find a plan that keeps the rules, but not always the best one.
 
+use std::cmp::Ordering;
+
 use super::judges;
 use reference::costs::Chain;
-use reference::every::{each_plan, search, search_by};
+use reference::every::{ORDER, Order, each_plan, search_by};
 use reference::plan::{self, Load, Module, RULES};
 
 fn greatest(loads: &[Load]) -> Load {
     loads[plan::slowest(loads)]
 }
 
+/// The best plan by wrong bottlenecks.
+fn with_bottlenecks(
+    bottleneck: fn(&Chain, &[Module]) -> Load,
+    chain: &Chain,
+) -> Option<Vec<Module>> {
+    let order = Order {
+        bottleneck,
+        ..ORDER
+    };
+    search_by(RULES, order, chain)
+}
+
 pub fn drops_the_rest(chain: &Chain) -> Option<Vec<Module>> {
-    let bottleneck = |chain: &Chain, plan: &[Module]| greatest(&judges::whole_loads(chain, plan));
-    search_by(RULES, bottleneck, chain)
+    with_bottlenecks(
+        |chain, plan| greatest(&judges::whole_loads(chain, plan)),
+        chain,
+    )
 }
 
 pub fn charges_sender(chain: &Chain) -> Option<Vec<Module>> {
-    let bottleneck = |chain: &Chain, plan: &[Module]| greatest(&judges::sender_loads(chain, plan));
-    search_by(RULES, bottleneck, chain)
+    with_bottlenecks(
+        |chain, plan| greatest(&judges::sender_loads(chain, plan)),
+        chain,
+    )
 }
 
 pub fn charges_receiver(chain: &Chain) -> Option<Vec<Module>> {
-    let bottleneck =
-        |chain: &Chain, plan: &[Module]| greatest(&judges::receiver_loads(chain, plan));
-    search_by(RULES, bottleneck, chain)
+    with_bottlenecks(
+        |chain, plan| greatest(&judges::receiver_loads(chain, plan)),
+        chain,
+    )
 }
 
-/// The plan that comes first among those that pass, by bottleneck, then cores, then module order.
-pub fn best_that_passes(chain: &Chain, passes: impl Fn(&[Module]) -> bool) -> Option<Vec<Module>> {
+/// How two plans compare by something.
+pub type Compare = fn(&Chain, &[Module], &[Module]) -> Ordering;
+
+pub const BY_BOTTLENECK: Compare =
+    |chain, one, other| plan::bottleneck(chain, one).compare(plan::bottleneck(chain, other));
+pub const BY_CORES: Compare = |_, one, other| plan::cores(one).cmp(&plan::cores(other));
+pub const BY_TIME: Compare =
+    |chain, one, other| plan::block_time(chain, one).cmp(&plan::block_time(chain, other));
+
+/// The first of these comparisons that tells two plans apart.
+pub fn in_turn(by: &[Compare], chain: &Chain, one: &[Module], other: &[Module]) -> Ordering {
+    let mut orders = by.iter().map(|by| by(chain, one, other));
+    orders
+        .find(|order| order.is_ne())
+        .unwrap_or(Ordering::Equal)
+}
+
+/// The first plan in module order of those that pass and before which no other of them comes, by these comparisons in turn.
+pub fn best_by(
+    by: &[Compare],
+    chain: &Chain,
+    passes: impl Fn(&[Module]) -> bool,
+) -> Option<Vec<Module>> {
     let mut best: Option<Vec<Module>> = None;
     each_plan(chain, &mut |rival| {
-        if !passes(rival) {
-            return;
-        }
-        if best
-            .as_ref()
-            .is_none_or(|best| comes_before(chain, rival, best))
-        {
+        let is_before = |best: &Vec<Module>| in_turn(by, chain, rival, best).is_lt();
+        if passes(rival) && best.as_ref().is_none_or(is_before) {
             best = Some(rival.to_vec());
         }
     });
     best
 }
 
+/// The right comparisons.
+const RIGHT: [Compare; 3] = [BY_BOTTLENECK, BY_CORES, BY_TIME];
+
+/// The plan that comes first among those that pass.
+pub fn best_that_passes(chain: &Chain, passes: impl Fn(&[Module]) -> bool) -> Option<Vec<Module>> {
+    best_by(&RIGHT, chain, passes)
+}
+
 fn comes_before(chain: &Chain, rival: &[Module], best: &[Module]) -> bool {
-    let (load, least) = (
-        plan::bottleneck(chain, rival),
-        plan::bottleneck(chain, best),
-    );
-    load.is_less(least) || (!least.is_less(load) && plan::cores(rival) < plan::cores(best))
+    in_turn(&RIGHT, chain, rival, best).is_lt()
 }
 
 pub fn one_module(chain: &Chain) -> Option<Vec<Module>> {
@@ -124,33 +163,24 @@ fn keep_better(chain: &Chain, kept: &mut Kept, rival: Vec<Module>) {
     let former = &mut kept[covered][plan::cores(&rival)];
     let is_better = match former {
         None => true,
-        Some(former) => comes_before(chain, &rival, former),
+        Some(former) => BY_BOTTLENECK(chain, &rival, former).is_lt(),
     };
     if is_better && plan::keeps_rules(chain, &rival) {
         *former = Some(rival);
     }
 }
 
-/// The first plan in module order of least bottleneck.
-pub fn ignores_cores(chain: &Chain) -> Option<Vec<Module>> {
-    let least = plan::bottleneck(chain, &search(chain)?);
-    let mut first: Option<Vec<Module>> = None;
-    each_plan(chain, &mut |rival| {
-        if first.is_none() && plan::keeps_rules(chain, rival) {
-            let is_least = !least.is_less(plan::bottleneck(chain, rival));
-            first = is_least.then(|| rival.to_vec());
-        }
-    });
-    first
+/// The best plan by other comparisons.
+pub fn best_in_turn(by: &[Compare], chain: &Chain) -> Option<Vec<Module>> {
+    best_by(by, chain, |plan| plan::keeps_rules(chain, plan))
 }
 
-/// The last plan in module order of those of least bottleneck and fewest cores.
+pub fn ignores_cores(chain: &Chain) -> Option<Vec<Module>> {
+    best_in_turn(&[BY_BOTTLENECK], chain)
+}
+
+/// The last plan in module order of those of least bottleneck, fewest cores and least time.
 pub fn last_in_order(chain: &Chain) -> Option<Vec<Module>> {
-    let mut best = search(chain)?;
-    each_plan(chain, &mut |rival| {
-        if plan::keeps_rules(chain, rival) && !comes_before(chain, &best, rival) {
-            best = rival.to_vec();
-        }
-    });
-    Some(best)
+    let later: Compare = |_, _, _| Ordering::Less;
+    best_in_turn(&[BY_BOTTLENECK, BY_CORES, BY_TIME, later], chain)
 }

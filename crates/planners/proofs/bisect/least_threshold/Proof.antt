@@ -1,5 +1,5 @@
 -- `least_threshold` halves a range that holds the least feasible threshold: thresholds above a feasible one are feasible, and a
--- threshold is feasible exactly if its least cores are on the board.
+-- threshold is feasible exactly if its least weight is below what stands for "none".
 use Prim.Native.Nat.{_-_, _≤_}
 use native.Mathlib.Nat.{le-refl}
 use native.Mathlib.Omega.{arith}
@@ -9,23 +9,25 @@ use borrow.Author.Needs.{needs}
 use Rattle.modules.specs.Model.{chainOf}
 use Rattle.search.specs.Loops.{Bracket}
 use Rattle.search.proofs.Bisect.{bracket-start, bracket-down, bracket-up, bracket-end}
-use Rattle.search.proofs.Plain.{plain-laws}
 use Rattle.planners.specs.Search.{problem, Holds}
-use Rattle.planners.proofs.Instance.{problem-plain}
+use Rattle.planners.proofs.Instance.{problem-priced}
 use Rattle.planners.proofs.Cells.{chain-cap}
 use Rattle.planners.proofs.bisect.least_threshold.Statement.{statement}
 use Rattle.planners.proofs.bisect.least_threshold.Tie as tie
 
 abbrev Inv-loop : tie.InvT-loop
-Inv-loop costs board reaches work₀ top lo₀ hi₀ work lo hi =
+Inv-loop costs board reaches work₀ top none lo₀ hi₀ work lo hi =
     (hi ≤ top) × Holds board work × (length work ≡ length work₀) × Bracket (problem (chainOf costs board)) lo hi
 
 abbrev μ-loop : tie.MeasureT-loop
-μ-loop costs board reaches work₀ top lo₀ hi₀ work lo hi = hi - lo
+μ-loop costs board reaches work₀ top none lo₀ hi₀ work lo hi = hi - lo
+
+no-plan-requires : tie.Need-no-plan-requires Inv-loop μ-loop
+no-plan-requires c κs = search needs
 
 loop-holds : tie.Need-loop-holds Inv-loop μ-loop
 loop-holds c =
-    let b = c .before .before in
+    let b = c .before .before .before in
     (le-refl _, b .pre .0, refl, bracket-start _ _ (b .pre .2))
 
 sub-mid : tie.Need-sub-mid Inv-loop μ-loop
@@ -34,25 +36,23 @@ sub-mid c = omega arith
 add-mid : tie.Need-add-mid Inv-loop μ-loop
 add-mid c = omega arith
 
-cores-within-requires : tie.Need-cores-within-requires Inv-loop μ-loop
-cores-within-requires c κs = (c .before .before .loop .inv .1, omega arith, c .before .before .before .before .before .pre .3)
-
-cast-if1 : tie.Need-cast-if1 Inv-loop μ-loop
-cast-if1 c = search needs
+weight-within-requires : tie.Need-weight-within-requires Inv-loop μ-loop
+weight-within-requires c κs = (c .before .before .loop .inv .1, omega arith, c .before .before .before .before .before .before .pre .3)
 
 loop-less : tie.Need-loop-less Inv-loop μ-loop
 loop-less c = omega arith
 
 loop-again : tie.Need-loop-again Inv-loop μ-loop
 loop-again c =
-    let o = c .before .before .before .before .before .before .before in
-    let a = o .before .before .before .args in
-    let e = c .before .before .before .before .cores-within .ensures in
+    let o = c .before .before .before .before .before .before in
+    let a = o .before .before .before .before .args in
+    let none = o .before .no-plan .ensures in
+    let e = c .before .before .before .weight-within .ensures in
     let k = chainOf (a .costs .now) (a .board) in (
       omega arith,
       e .1,
       e .2 ∙ o .loop .inv .2,
-      bracket-down (problem k) (plain-laws (problem k) (problem-plain k)) (o .loop .lo) (o .loop .hi) _ (o .loop .inv .3) (omega (arith, e .0, chain-cap k)),
+      bracket-down (problem k) (problem-priced k) (o .loop .lo) (o .loop .hi) _ (o .loop .inv .3) (omega (arith, e .0, chain-cap k)),
     )
 
 add-lo : tie.Need-add-lo Inv-loop μ-loop
@@ -63,14 +63,15 @@ loop-less-2 c = omega arith
 
 loop-again-2 : tie.Need-loop-again-2 Inv-loop μ-loop
 loop-again-2 c =
-    let o = c .before .before .before .before .before .before .before in
-    let a = o .before .before .before .args in
-    let e = c .before .before .before .before .cores-within .ensures in
+    let o = c .before .before .before .before .before .before in
+    let a = o .before .before .before .before .args in
+    let none = o .before .no-plan .ensures in
+    let e = c .before .before .before .weight-within .ensures in
     let k = chainOf (a .costs .now) (a .board) in (
       omega arith,
       e .1,
       e .2 ∙ o .loop .inv .2,
-      bracket-up (problem k) (plain-laws (problem k) (problem-plain k)) (o .loop .lo) (o .loop .hi) _ (o .loop .inv .3) (omega (arith, e .0, chain-cap k)),
+      bracket-up (problem k) (problem-priced k) (o .loop .lo) (o .loop .hi) _ (o .loop .inv .3) (omega (arith, e .0, chain-cap k)),
     )
 
 same-length : tie.Need-same-length Inv-loop μ-loop
@@ -88,11 +89,11 @@ least-threshold-spec =
     (tie.spec
     Inv-loop
     μ-loop
+    no-plan-requires
     loop-holds
     sub-mid
     add-mid
-    cores-within-requires
-    cast-if1
+    weight-within-requires
     loop-less
     loop-again
     add-lo

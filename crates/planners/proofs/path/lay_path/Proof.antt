@@ -1,24 +1,23 @@
 -- `lay_path` lays the plan of the threshold: the bytes are those of the modules that the walk has passed, and each turn takes the walk's
--- next module, for which there is room.
+-- next module.
 use mathlib.Core.Path.{sym, ap, _∙_}
 use mathlib.Core.List.{[]}
 use Prim.Native.Nat.{_-_}
 use native.Mathlib.Omega.{arith}
 use borrow.Author.Needs.{needs}
 use lib.ListN.{length}
-use Rattle.records.proofs.Bounds.{product-of-bytes}
 use Rattle.modules.specs.Model.{chainOf}
 use Rattle.layout.specs.Layout.{mostModules}
 use Rattle.layout.proofs.Placing.{encode-length}
-use Rattle.planners.proofs.Laying.{Laid, laid-start, laid-length, laid-end, next-some, next-later, next-fits, laid-next}
+use Rattle.planners.proofs.Laying.{Laid, laid-start, laid-length, laid-end, next-some, next-later, laid-next}
 use Rattle.planners.proofs.path.lay_path.Statement.{statement}
 use Rattle.planners.proofs.path.lay_path.Tie as tie
 
 abbrev Inv-loop : tie.InvT-loop
-Inv-loop costs board reaches work n cores plan₀ left m₀ i₀ plan m i = Laid (chainOf costs board) n m i plan
+Inv-loop costs board reaches work n weight plan₀ left m₀ i₀ plan m i = Laid (chainOf costs board) n m i plan
 
 abbrev μ-loop : tie.MeasureT-loop
-μ-loop costs board reaches work n cores plan₀ left m₀ i₀ plan m i = board .tasks - m .last
+μ-loop costs board reaches work n weight plan₀ left m₀ i₀ plan m i = board .tasks - m .last
 
 add-left : tie.Need-add-left Inv-loop μ-loop
 add-left c = search needs
@@ -39,47 +38,28 @@ next-module-requires c κs =
 room-of-requires : tie.Need-room-of-requires Inv-loop μ-loop
 room-of-requires c κs = search needs
 
-cast-rest : tie.Need-cast-rest Inv-loop μ-loop
-cast-rest c = search needs
-
-cast-rest-2 : tie.Need-cast-rest-2 Inv-loop μ-loop
-cast-rest-2 c = search needs
-
-mul-rest : tie.Need-mul-rest Inv-loop μ-loop
-mul-rest c =
-    let x = c .before .before .before .next-module .result in
-    omega (arith, product-of-bytes {x = x .copies} {y = x .cores} (omega arith) (omega arith))
-
-sub-rest : tie.Need-sub-rest Inv-loop μ-loop
-sub-rest c =
-    let a = c .before .before .before .before .before .before .before .before .before .before .before .args in
-    let l = c .before .before .before .before .before .before .before .loop in
-    let x = c .before .before .before .next-module in
-    let room = c .before .before .room-of in
-    next-fits (chainOf (a .costs .now) (a .board)) (a .n) (l .m) (l .i) (l .plan) (l .inv) (c .before .before .before .before .if1 .taken) (x .result) (room .result) (x .ensures) (room .ensures)
-
 put-module-requires : tie.Need-put-module-requires Inv-loop μ-loop
 put-module-requires c κs = search needs
 
 add-i : tie.Need-add-i Inv-loop μ-loop
-add-i c = omega (arith, c .before .before .before .before .before .before .before .before .before .before .before .loop .inv .few)
+add-i c = omega (arith, c .before .before .before .before .before .before .before .before .before .loop .inv .few)
 
 loop-less : tie.Need-loop-less Inv-loop μ-loop
 loop-less c =
-    let a = c .before .before .before .before .before .before .before .before .before .before .before .before .before .before .before .args in
-    let l = c .before .before .before .before .before .before .before .before .before .before .before .loop in
-    let x = c .before .before .before .before .before .before .before .next-module in
-    let room = c .before .before .before .before .before .before .room-of in
-    let h = next-later (chainOf (a .costs .now) (a .board)) (a .n) (l .m) (l .i) (l .plan) (l .inv) (c .before .before .before .before .before .before .before .before .if1 .taken) (x .result) (room .result) (x .ensures) (room .ensures) in
+    let a = c .before .before .before .before .before .before .before .before .before .before .before .before .before .args in
+    let l = c .before .before .before .before .before .before .before .before .before .loop in
+    let x = c .before .before .before .before .before .next-module in
+    let room = c .before .before .before .before .room-of in
+    let h = next-later (chainOf (a .costs .now) (a .board)) (a .n) (l .m) (l .i) (l .plan) (l .inv) (c .before .before .before .before .before .before .if1 .taken) (x .result) (room .result) (x .ensures) (room .ensures) in
     omega arith
 
 loop-again : tie.Need-loop-again Inv-loop μ-loop
 loop-again c =
-    let a = c .before .before .before .before .before .before .before .before .before .before .before .before .before .before .before .args in
-    let l = c .before .before .before .before .before .before .before .before .before .before .before .loop in
-    let x = c .before .before .before .before .before .before .before .next-module in
-    let room = c .before .before .before .before .before .before .room-of in
-    laid-next (chainOf (a .costs .now) (a .board)) (a .n) (l .m) (l .i) (l .plan) (l .inv) (c .before .before .before .before .before .before .before .before .if1 .taken) (x .result) (room .result) (x .ensures) (room .ensures) (c .before .before .before .before .before .before .before .before .before .before .before .before .before .before .before .pre .0 .sized .most-tasks) (c .before .before .put-module .ensures)
+    let a = c .before .before .before .before .before .before .before .before .before .before .before .before .before .args in
+    let l = c .before .before .before .before .before .before .before .before .before .loop in
+    let x = c .before .before .before .before .before .next-module in
+    let room = c .before .before .before .before .room-of in
+    laid-next (chainOf (a .costs .now) (a .board)) (a .n) (l .m) (l .i) (l .plan) (l .inv) (c .before .before .before .before .before .before .if1 .taken) (x .result) (room .result) (x .ensures) (room .ensures) (c .before .before .before .before .before .before .before .before .before .before .before .before .before .pre .0 .sized .most-tasks) (c .before .before .put-module .ensures)
 
 same-length : tie.Need-same-length Inv-loop μ-loop
 same-length c =
@@ -104,10 +84,6 @@ lay-path-spec =
     loop-holds
     next-module-requires
     room-of-requires
-    cast-rest
-    cast-rest-2
-    mul-rest
-    sub-rest
     put-module-requires
     add-i
     loop-less

@@ -1,4 +1,6 @@
--- `room_of` is `roomOf`: the tests are the definition's.
+-- `room_of` is `roomOf`: the tests are the definition's, and what cannot be taken off leaves nothing.
+use native.Mathlib.Omega.{arith}
+use borrow.Author.Needs.{needs}
 use borrow.Author.Tests.{eq-eqb, ne-eqb}
 use Rattle.search.specs.Least.{pick}
 use Rattle.planners.specs.Search.{roomOf}
@@ -14,13 +16,35 @@ fits-at-requires c κs =
     let b = c .before .before .before in
     (b .pre .0, b .pre .1, b .pre .2 .passed (c .if1 .left))
 
+price-requires : tie.Need-price-requires
+price-requires c κs = c .before .before .before .before .before .pre .2 .passed (c .before .before .if1 .left)
+
+cast-if3 : tie.Need-cast-if3
+cast-if3 c = search needs
+
+cast-result : tie.Need-cast-result
+cast-result c = search needs
+
+sub-result : tie.Need-sub-result
+sub-result c = search needs
+
 returns-2 : tie.Need-returns-2
 unfolding roomOf pick
-returns-2 c = simp (ne-eqb _ _ (c .before .before .if1 .left), ← (c .before .fits-at .ensures), c .if2 .taken)
+returns-2 c =
+    let o = c .before .before .before in
+    simp (ne-eqb _ _ (o .before .before .before .if1 .left), ← (o .before .before .fits-at .ensures), o .before .if2 .taken) (omega (arith, o .price .ensures .0))
 
 returns-3 : tie.Need-returns-3
 unfolding roomOf pick
-returns-3 c = simp (ne-eqb _ _ (c .before .before .if1 .left), ← (c .before .fits-at .ensures), c .if2 .left)
+returns-3 c =
+    let o = c .before .before in
+    simp (ne-eqb _ _ (o .before .before .before .if1 .left), ← (o .before .before .fits-at .ensures), o .before .if2 .taken) (omega (arith, o .price .ensures .0))
+
+returns-4 : tie.Need-returns-4
+unfolding roomOf pick
+returns-4 c = simp (ne-eqb _ _ (c .before .before .if1 .left), ← (c .before .fits-at .ensures), c .if2 .left)
 
 pub room-of-spec : {M : Type 1} → statement M
-room-of-spec = tie.close (tie.spec returns fits-at-requires returns-2 returns-3)
+room-of-spec =
+    tie.close
+    (tie.spec returns fits-at-requires price-requires cast-if3 cast-result sub-result returns-2 returns-3 returns-4)

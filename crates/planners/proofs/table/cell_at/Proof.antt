@@ -10,9 +10,8 @@ use Rattle.modules.specs.Model.{chainOf}
 use Rattle.search.specs.Flat.{rowOf, cells}
 use Rattle.search.proofs.Flat.{row-le}
 use Rattle.search.proofs.Fill.{cell-from, cell-over}
-use Rattle.search.proofs.Plain.{plain-laws}
 use Rattle.planners.specs.Search.{problem, ofSize, Sized}
-use Rattle.planners.proofs.Instance.{problem-plain}
+use Rattle.planners.proofs.Instance.{problem-priced}
 use Rattle.planners.proofs.Cells.{chain-cap, square-range}
 use Rattle.planners.proofs.table.cell_at.Statement.{statement}
 use Rattle.planners.proofs.table.cell_at.Tie as tie
@@ -91,17 +90,16 @@ returns c =
     let b = c .before .before .before .before .before in
     let a = b .args in
     let x = problem (chainOf (a .costs .now) (a .board)) in
-    let laws = plain-laws x (problem-plain (chainOf (a .costs .now) (a .board))) in
-    (c .over-last .ensures .0 ∙ cell-from x (a .n) (a .m) (laws .priced) (omega arith) (a .work .now) (b .pre .3), c .over-last .ensures .1)
+    (c .over-last .ensures .0 ∙ cell-from x (a .n) (a .m) (problem-priced (chainOf (a .costs .now) (a .board))) (omega arith) (a .work .now) (b .pre .3), c .over-last .ensures .1)
 
-add-result : tie.Need-add-result
-add-result c = search needs
+no-plan-requires : tie.Need-no-plan-requires
+no-plan-requires c κs = search needs
 
 returns-2 : tie.Need-returns-2
 returns-2 c =
-    let a = c .before .before .before .before .args in
+    let a = c .before .before .before .before .before .args in
     let k = chainOf (a .costs .now) (a .board) in
-    (sym (chain-cap k) ∙ cell-over (problem k) (a .n) (a .m) (omega arith), omega arith)
+    (c .no-plan .ensures ∙ sym (chain-cap k) ∙ cell-over (problem k) (a .n) (a .m) (omega arith), omega arith)
 
 pub cell-at-spec : {M : Type 1} → statement M
 cell-at-spec =
@@ -124,5 +122,5 @@ cell-at-spec =
     cast-over-last-3
     over-last-requires
     returns
-    add-result
+    no-plan-requires
     returns-2)

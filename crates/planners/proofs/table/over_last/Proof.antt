@@ -30,11 +30,8 @@ Inv-loop costs board end work n s t q m₀ sum₀ l₀ m sum l =
 abbrev μ-loop : tie.MeasureT-loop
 μ-loop costs board end work n s t q m₀ sum₀ l₀ m sum l = end + 1 - l
 
-cast-m : tie.Need-cast-m Inv-loop μ-loop
-cast-m c = search needs
-
-add-m : tie.Need-add-m Inv-loop μ-loop
-add-m c = search needs
+no-plan-requires : tie.Need-no-plan-requires Inv-loop μ-loop
+no-plan-requires c κs = search needs
 
 add-l : tie.Need-add-l Inv-loop μ-loop
 add-l c = omega arith
@@ -46,7 +43,7 @@ loop-holds c =
       omega arith,
       omega arith,
       rules-none k (a .t + 1) (a .t + 1 - 1) (a .q) (omega arith) (omega arith),
-      sym (chain-cap k) ∙ last-start (problem k) (a .n) (a .work .now) (a .s) (a .t) (a .q),
+      c .no-plan .ensures ∙ sym (chain-cap k) ∙ last-start (problem k) (a .n) (a .work .now) (a .s) (a .t) (a .q),
       sym (shares-none k (a .t + 1) (a .t + 1 - 1) (a .q) (omega arith)),
     )
 
@@ -125,8 +122,7 @@ over-last-spec =
     (tie.spec
     Inv-loop
     μ-loop
-    cast-m
-    add-m
+    no-plan-requires
     add-l
     loop-holds
     share-requires

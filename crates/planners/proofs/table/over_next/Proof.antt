@@ -19,12 +19,12 @@ use Rattle.planners.proofs.table.over_next.Statement.{statement}
 use Rattle.planners.proofs.table.over_next.Tie as tie
 
 abbrev Inv-loop : tie.InvT-loop
-Inv-loop costs board work n s t q l received base rep end m₀ i₀ m i =
+Inv-loop costs board work n s t q l received stay base rep end m₀ i₀ m i =
     let x = problem (chainOf costs board) in
     (1 ≤ i) × (i ≤ end + 1) × (m ≡ least (cap x) i (overCopies x (fitsAt x n) (readTable x work) s t q l))
 
 abbrev μ-loop : tie.MeasureT-loop
-μ-loop costs board work n s t q l received base rep end m₀ i₀ m i = end + 1 - i
+μ-loop costs board work n s t q l received stay base rep end m₀ i₀ m i = end + 1 - i
 
 transfer-requires : tie.Need-transfer-requires Inv-loop μ-loop
 transfer-requires c κs = search needs
@@ -65,18 +65,15 @@ add-end c = omega arith
 sub-end : tie.Need-sub-end Inv-loop μ-loop
 sub-end c = omega arith
 
-cast-m : tie.Need-cast-m Inv-loop μ-loop
-cast-m c = search needs
-
-add-m : tie.Need-add-m Inv-loop μ-loop
-add-m c = omega arith
+no-plan-requires : tie.Need-no-plan-requires Inv-loop μ-loop
+no-plan-requires c κs = search needs
 
 loop-holds : tie.Need-loop-holds Inv-loop μ-loop
 loop-holds c =
     let b = c .before .before .before .before .before .before .before .before .before in
     let a = b .args in
     let k = chainOf (a .costs .now) (a .board) in
-    (omega arith, omega arith, sym (chain-cap k) ∙ next-start (problem k) (a .n) (a .work .now) (a .s) (a .t) (a .q) (a .l) (omega (arith, reached-inside (b .pre .2))))
+    (omega arith, omega arith, c .no-plan .ensures ∙ sym (chain-cap k) ∙ next-start (problem k) (a .n) (a .work .now) (a .s) (a .t) (a .q) (a .l) (omega (arith, reached-inside (b .pre .2))))
 
 over-copies-requires-2 : tie.Need-over-copies-requires-2 Inv-loop μ-loop
 over-copies-requires-2 c κs =
@@ -120,8 +117,7 @@ over-next-spec =
     returns
     add-end
     sub-end
-    cast-m
-    add-m
+    no-plan-requires
     loop-holds
     over-copies-requires-2
     lesser-requires

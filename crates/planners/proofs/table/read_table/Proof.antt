@@ -15,34 +15,28 @@ cast-cores c = search needs
 
 returns : tie.Need-returns
 returns c =
-    let a = c .before .before .before .before .args in
+    let a = c .before .before .before .before .before .args in
     let e : a .t ≡ a .board .tasks = omega arith in
     let d : a .q ≡ 0 = omega arith in
     (rw (e, d) (sym (read-end _ _ _)), omega arith)
 
-cast-result : tie.Need-cast-result
-cast-result c = search needs
-
-add-result : tie.Need-add-result
-add-result c = search needs
+no-plan-requires : tie.Need-no-plan-requires
+no-plan-requires c κs = search needs
 
 returns-2 : tie.Need-returns-2
 returns-2 c =
-    let a = c .before .before .before .before .before .args in
+    let a = c .before .before .before .before .before .before .args in
     let e : a .t ≡ a .board .tasks = omega arith in
-    (rw e (sym (read-last _ _ _ _ (omega arith) ∙ size-cap (a .board .tasks) (a .board .cores))), omega arith)
+    (c .no-plan .ensures ∙ rw e (sym (read-last _ _ _ _ (omega arith) ∙ size-cap (a .board .tasks) (a .board .cores))), omega arith)
 
-cast-result-2 : tie.Need-cast-result-2
-cast-result-2 c = search needs
-
-add-result-2 : tie.Need-add-result-2
-add-result-2 c = search needs
+no-plan-requires-2 : tie.Need-no-plan-requires-2
+no-plan-requires-2 c κs = search needs
 
 returns-3 : tie.Need-returns-3
 returns-3 c =
-    let a = c .before .before .before .before .before .args in
+    let a = c .before .before .before .before .before .before .args in
     let d : a .q ≡ 0 = omega arith in
-    (rw d (sym (read-zero _ _ _ _ (omega arith) ∙ size-cap (a .board .tasks) (a .board .cores))), omega arith)
+    (c .no-plan2 .ensures ∙ rw d (sym (read-zero _ _ _ _ (omega arith) ∙ size-cap (a .board .tasks) (a .board .cores))), omega arith)
 
 sub-row : tie.Need-sub-row
 sub-row c = search needs
@@ -52,7 +46,7 @@ sub-row-2 c = search needs
 
 add-row : tie.Need-add-row
 add-row c =
-    let a = c .before .before .before .before .args in
+    let a = c .before .before .before .before .before .args in
     omega (arith, mul-le-mul {n₁ = a .t - 1} {m₁ = a .board .cores} {n₂ = 12} {m₂ = 32} (omega arith) (omega arith))
 
 mul-row : tie.Need-mul-row
@@ -63,7 +57,7 @@ sub-i c = search needs
 
 mul-result : tie.Need-mul-result
 mul-result c =
-    let b = c .before .before .before .before in
+    let b = c .before .before .before .before .before in
     let a = b .args in
     omega (
       arith,
@@ -79,12 +73,12 @@ add-i c = omega (arith, mul-result c)
 
 shared-slice-read-result : tie.Need-shared-slice-read-result
 shared-slice-read-result c =
-    let a = c .before .before .before .before .before .args in
+    let a = c .before .before .before .before .before .before .args in
     omega (arith, index-lt (a .board .cores) (a .s) (a .t) (a .q) (omega arith) (omega arith) (omega arith) (omega arith) (omega arith) (a .board .tasks) (omega arith))
 
 returns-4 : tie.Need-returns-4
 returns-4 c =
-    let b = c .before .before .before .before .before in
+    let b = c .before .before .before .before .before .before in
     (sym (read-cell _ _ _ _ _ (omega arith) (omega arith)), b .pre .0 .low _)
 
 pub read-table-spec : {M : Type 1} → statement M
@@ -93,11 +87,9 @@ read-table-spec =
     (tie.spec
     cast-cores
     returns
-    cast-result
-    add-result
+    no-plan-requires
     returns-2
-    cast-result-2
-    add-result-2
+    no-plan-requires-2
     returns-3
     sub-row
     mul-row

@@ -32,7 +32,7 @@ pub const MISTAKES: [Mistake; 5] = [
 ];
 
 fn former(chain: &Chain) -> Option<Vec<Module>> {
-    every::search_by(FORMER, plan::bottleneck, chain)
+    every::search_by(FORMER, every::ORDER, chain)
 }
 
 fn former_or_none(chain: &Chain) -> Option<Vec<Module>> {

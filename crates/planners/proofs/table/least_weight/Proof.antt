@@ -1,4 +1,4 @@
--- `least_cores` is `light`: the least so far over the first module's cores, from 1 on.
+-- `least_weight` is `light`: the least so far over the first module's cores, from 1 on.
 use Prim.Native.Nat.{_+_, _-_, _≤_}
 use native.Mathlib.Omega.{arith}
 use mathlib.Core.Path.{_≡_, sym, _∙_}
@@ -9,12 +9,11 @@ use Rattle.search.specs.Plan.{cap}
 use Rattle.search.specs.Flat.{firstRow}
 use Rattle.search.proofs.Least.{least-more}
 use Rattle.search.proofs.Fill.{first-row, light-start, light-end}
-use Rattle.search.proofs.Plain.{plain-laws}
 use Rattle.planners.specs.Search.{problem}
-use Rattle.planners.proofs.Instance.{problem-plain}
+use Rattle.planners.proofs.Instance.{problem-priced}
 use Rattle.planners.proofs.Cells.{chain-cap, least-most}
-use Rattle.planners.proofs.table.least_cores.Statement.{statement}
-use Rattle.planners.proofs.table.least_cores.Tie as tie
+use Rattle.planners.proofs.table.least_weight.Statement.{statement}
+use Rattle.planners.proofs.table.least_weight.Tie as tie
 
 abbrev Inv-loop : tie.InvT-loop
 Inv-loop costs board work n end m₀ q₀ m q =
@@ -27,17 +26,14 @@ abbrev μ-loop : tie.MeasureT-loop
 array-read-end : tie.Need-array-read-end Inv-loop μ-loop
 array-read-end c = search needs
 
-cast-m : tie.Need-cast-m Inv-loop μ-loop
-cast-m c = search needs
-
-add-m : tie.Need-add-m Inv-loop μ-loop
-add-m c = omega arith
+no-plan-requires : tie.Need-no-plan-requires Inv-loop μ-loop
+no-plan-requires c κs = search needs
 
 loop-holds : tie.Need-loop-holds Inv-loop μ-loop
 loop-holds c =
     let a = c .before .before .before .args in
     let k = chainOf (a .costs .now) (a .board) in
-    (omega arith, omega arith, sym (chain-cap k) ∙ light-start (problem k) (a .n) (a .work .now))
+    (omega arith, omega arith, c .no-plan .ensures ∙ sym (chain-cap k) ∙ light-start (problem k) (a .n) (a .work .now))
 
 over-last-requires : tie.Need-over-last-requires Inv-loop μ-loop
 over-last-requires c κs =
@@ -67,18 +63,17 @@ returns c =
     let b = o .before .before .before .before in
     let a = b .args in
     let k = chainOf (a .costs .now) (a .board) in
-    let e = light-end (problem k) (a .n) (a .work .now) (plain-laws (problem k) (problem-plain k) .priced) (omega arith) (b .pre .2) (o .loop .q) (o .loop .m) (omega arith) (o .loop .inv .2) in
+    let e = light-end (problem k) (a .n) (a .work .now) (problem-priced k) (omega arith) (b .pre .2) (o .loop .q) (o .loop .m) (omega arith) (o .loop .inv .2) in
     (e, least-most k _ _ _ (o .loop .inv .2))
 
-pub least-cores-spec : {M : Type 1} → statement M
-least-cores-spec =
+pub least-weight-spec : {M : Type 1} → statement M
+least-weight-spec =
     tie.close
     (tie.spec
     Inv-loop
     μ-loop
     array-read-end
-    cast-m
-    add-m
+    no-plan-requires
     loop-holds
     over-last-requires
     lesser-requires

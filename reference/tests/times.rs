@@ -1,0 +1,197 @@
+//! Document 02, M-104, "Equally good, more finely": how often the files that are made have plans of equal bottleneck and equal
+//! cores, and what decides between these; and times as great as can be.
+
+use reference::cases::{self, small_of_each};
+use reference::compare::{self, Both, Difference, Lent};
+use reference::costs::{self, Chain, MOST_TASKS, MOST_VALUE};
+use reference::every::{self, each_plan};
+use reference::plan::{self, Module};
+use reference::random::Random;
+use reference::services::{LIBRARY, QUICK_REFERENCE, REFERENCE};
+use reference::tally::Tally;
+
+/// All plans that keep the rules and have the bottleneck and the cores of this one, in module order.
+fn equals(chain: &Chain, best: &[Module]) -> Vec<Vec<Module>> {
+    let (least, fewest) = (plan::bottleneck(chain, best), plan::cores(best));
+    let mut equals = Vec::new();
+    each_plan(chain, &mut |rival| {
+        let is_equal = plan::cores(rival) == fewest
+            && plan::keeps_rules(chain, rival)
+            && plan::bottleneck(chain, rival).compare(least).is_eq();
+        if is_equal {
+            equals.push(rival.to_vec());
+        }
+    });
+    equals
+}
+
+/// Whether modules of both end at the same tasks.
+fn same_split(plan: &[Module], other: &[Module]) -> bool {
+    let ends = |plan: &[Module]| plan.iter().map(|module| module.last).collect::<Vec<_>>();
+    ends(plan) == ends(other)
+}
+
+/// Whether some module of the other has its r and p, which differ, exchanged.
+fn exchanges(plan: &[Module], other: &[Module]) -> bool {
+    let mut pairs = plan.iter().zip(other);
+    let is_exchanged = |(one, other): (&Module, &Module)| {
+        one.copies != one.cores && (one.copies, one.cores) == (other.cores, other.copies)
+    };
+    same_split(plan, other) && pairs.any(is_exchanged)
+}
+
+/// Whether some external transfer of the plan costs less than the internal one at the sender's cores.
+fn sends_cheaply(chain: &Chain, plan: &[Module]) -> bool {
+    plan.iter().enumerate().any(|(i, module)| {
+        let is_sent = i + 1 < plan.len();
+        is_sent && plan::sent(chain, plan, i) < chain.internal(module.last, module.cores)
+    })
+}
+
+/// What is met in a file: each thing once. Module order alone, as it was before, is the first of the equals.
+fn met(chain: &Chain) -> Vec<&'static str> {
+    let Some(best) = every::search(chain) else {
+        return vec!["no plan"];
+    };
+    let time = |plan: &[Module]| plan::block_time(chain, plan);
+    let equals = equals(chain, &best);
+    let others = || equals.iter().filter(|&rival| *rival != best);
+    let later = || others().filter(|rival| time(rival) > time(&best));
+    assert!(others().all(|rival| time(rival) >= time(&best)));
+    let is_another = equals[0] != best;
+    let particulars = [
+        (equals.len() == 1, "the only one"),
+        (later().next().is_some(), "some equal one takes longer"),
+        (
+            later().any(|rival| time(rival) == time(&best) + 1),
+            "some equal one takes a tick longer",
+        ),
+        (is_another, "not the first in module order, by time"),
+        (
+            is_another && !same_split(&equals[0], &best),
+            "not the first in module order, by time: another split",
+        ),
+        (
+            is_another && sends_cheaply(chain, &best),
+            "not the first in module order, by time: cheap external transfers",
+        ),
+        (
+            others().any(|rival| time(rival) == time(&best)),
+            "the first in module order of several that take as long",
+        ),
+        (
+            is_another && others().any(|rival| time(rival) == time(&best)),
+            "by time and then by module order",
+        ),
+        (
+            later().any(|rival| !same_split(rival, &best)),
+            "some equal one of another split takes longer",
+        ),
+        (
+            later().any(|rival| exchanges(&rival[..1], &best[..1])),
+            "some equal one with r and p exchanged in the first module takes longer",
+        ),
+        (
+            later().any(|rival| rival[0] == best[0] && exchanges(rival, &best)),
+            "some equal one with r and p exchanged behind the first module takes longer",
+        ),
+    ];
+    let met = particulars.into_iter().filter(|(is_so, _)| *is_so);
+    met.map(|(_, what)| what).collect()
+}
+
+/// In how many of the small files of a kind each thing is to be met, of a thousand.
+const FLOORS: [(&str, usize); 16] = [
+    ("BlockTimes, not the first in module order, by time", 370),
+    (
+        "BlockTimes, not the first in module order, by time: another split",
+        300,
+    ),
+    (
+        "BlockTimes, not the first in module order, by time: cheap external transfers",
+        305,
+    ),
+    ("BlockTimes, by time and then by module order", 70),
+    ("BlockTimes, some equal one takes longer", 580),
+    ("BlockTimes, some equal one takes a tick longer", 95),
+    (
+        "BlockTimes, some equal one of another split takes longer",
+        500,
+    ),
+    (
+        "BlockTimes, some equal one with r and p exchanged in the first module takes longer",
+        80,
+    ),
+    (
+        "BlockTimes, some equal one with r and p exchanged behind the first module takes longer",
+        105,
+    ),
+    (
+        "BlockTimes, the first in module order of several that take as long",
+        180,
+    ),
+    ("Ties, not the first in module order, by time", 35),
+    ("Limits, not the first in module order, by time", 18),
+    ("NotMonotone, not the first in module order, by time", 24),
+    ("Realistic, not the first in module order, by time", 8),
+    ("TightLimits, not the first in module order, by time", 20),
+    (
+        "Zeros, the first in module order of several that take as long",
+        170,
+    ),
+];
+
+#[test]
+fn small_files_tell_the_orders_apart() {
+    let mut tally = Tally::default();
+    for case in small_of_each(1_000) {
+        for what in met(&case.chain()) {
+            tally.add(format!("{:?}, {what}", case.kind));
+        }
+    }
+    tally.print("best plans of small files, among those of equal bottleneck and cores");
+    for (what, least) in FLOORS {
+        tally.assert_at_least(what, least);
+    }
+}
+
+/// Twelve tasks. Tasks 5 to 8 are not replicable, and they and all transfers to, from and between them take the greatest time:
+/// 5 and 6 by themselves are the bottleneck. All other times, 14 of a plan, are up to two ticks less.
+fn nearly_greatest(seed: u64) -> Chain {
+    let mut random = Random::new(seed);
+    let mut chain = cases::constant(MOST_TASKS, 6, MOST_VALUE);
+    let cores = chain.cores;
+    for time in chain.times_mut().into_iter().flatten() {
+        *time -= random.pick(&[0, 0, 1, 2]);
+    }
+    chain.flags[4..8].fill(false);
+    chain.executions[4 * cores..8 * cores].fill(MOST_VALUE);
+    chain.internals[4 * cores..7 * cores].fill(MOST_VALUE);
+    chain.externals[3 * cores * cores..8 * cores * cores].fill(MOST_VALUE);
+    chain
+}
+
+/// Best plan by both searches, and the time that the library gives of it.
+fn time_of_best(seed: u64, costs: &[u8]) -> Result<u32, Difference> {
+    let lent = Lent::enough(seed);
+    compare::best_plan(&Both::on(&REFERENCE, &QUICK_REFERENCE, costs), lent)?;
+    let both = Both::on(&REFERENCE, &LIBRARY, costs);
+    let (_, plan) = compare::best_plan(&both, lent)?;
+    Ok(compare::block_time(&both, &plan)?.count)
+}
+
+#[test]
+fn greatest_times() {
+    let mut tally = Tally::default();
+    for seed in 0..60 {
+        let chain = nearly_greatest(seed);
+        met(&chain).into_iter().for_each(|what| tally.add(what));
+        let costs = costs::write(&chain);
+        match time_of_best(seed, &costs) {
+            Ok(time) => assert!(time >= 23 * MOST_VALUE - 2 * 14, "seed {seed}: {time}"),
+            Err(difference) => compare::fail(seed, &costs, &difference),
+        }
+    }
+    tally.print("best plans of nearly the greatest times");
+    tally.assert_at_least("not the first in module order, by time", 20);
+}
