@@ -59,8 +59,8 @@ struct zombreki_answer zombreki_greedy_plan(const uint8_t *costs, size_t costs_l
 struct zombreki_answer zombreki_best_plan(const uint8_t *costs, size_t costs_len, uint8_t *plan, size_t plan_len,
                                           uint32_t *work, size_t work_len);
 
-/* What a service that only fills an output answers: how many bytes it has filled in, or a refusal's number and place. For a reach the
- * count is the reach, for a single-block time the time. */
+/* What the services below answer: how many bytes were filled in, the reach or the single-block time; or a refusal's number and
+ * place. */
 struct zombreki_filled {
     uint32_t refusal; /* 0, or the number of the refusal */
     uint32_t place;   /* the record or module at fault, counted from 1; 0 where none is named */
@@ -84,8 +84,9 @@ struct zombreki_filled zombreki_fill_costs(const uint8_t *head, size_t head_len,
  * their first task can be held so. Core limits and copies don't enter it. Refusals: 1 to 6, on the costs. */
 struct zombreki_filled zombreki_reach(const uint8_t *costs, size_t costs_len, uint8_t first);
 
-/* The single-block time of a plan, in ticks: each task's execution and each transfer, within a module or between two, once, at the plan's
- * cores. Copies don't enter it. At most 23,000,000. Refusals: those of zombreki_judge, with their places. */
+/* The single-block time of a plan, in ticks: each task's execution and each transfer, within a module or between two, once, at the cores
+ * of one copy of the module, or of each of the two. Copies don't enter it. At most 23,000,000. Bytes after the 48th are never read.
+ * Refusals, as zombreki_judge gives them and with its places: 1 to 6 on the costs, 7 and 12 to 16 on the plan bytes. */
 struct zombreki_filled zombreki_block_time(const uint8_t *costs, size_t costs_len, const uint8_t *plan, size_t plan_len);
 
 #ifdef __cplusplus

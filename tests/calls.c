@@ -281,8 +281,8 @@ static void plans_by_shares(const uint8_t *costs, size_t length)
     expect("reach, capacity 51", fills(zombreki_reach(narrow, length, 1), 0, 0, 2));
 }
 
-/* Document 02, M-104: each execution and each transfer once, at the cores of one copy. Byte 19 is the limit of task 2, whose
- * record is the third. What is lent is only read. */
+/* Document 02, M-104: each execution and each transfer once, at the cores of one copy. Byte 10 is the flag of task 1, byte 19 the
+ * limit of task 2, whose record is the third. What is lent is only read. */
 static void times_blocks(const uint8_t *costs, size_t length)
 {
     uint8_t changed[248];
@@ -301,6 +301,12 @@ static void times_blocks(const uint8_t *costs, size_t length)
     memcpy(plan, (uint8_t[]){1, 1, 2, 1, 2, 2, 1, 2}, 8);
     expect("time, 12 + 2 + 10", fills(zombreki_block_time(costs, length, plan, 48), 0, 0, 24));
     expect("time, short", fills(zombreki_block_time(costs, length, plan, 47), 7, 0, 0));
+    expect("time, no plan", fills(zombreki_block_time(costs, length, NULL, 0), 7, 0, 0));
+    changed[10] = 0;
+    expect("time, copies", fills(zombreki_block_time(changed, length, plan, 48), 13, 1, 0));
+    changed[10] = costs[10];
+    expect("time, blank", fills(zombreki_block_time(costs, length, (uint8_t[48]){0}, 48), 12, 1, 0));
+    expect("time, memory", fills(zombreki_block_time(costs, length, (uint8_t[48]){1, 2, 1, 1}, 48), 14, 1, 0));
     plan[7] = 3;
     expect("time, cores", fills(zombreki_block_time(costs, length, plan, 48), 15, 0, 0));
     changed[19] = 2;

@@ -61,6 +61,31 @@ fn filled_into(room: usize, case: &LawCase) -> Filled {
     answer
 }
 
+/// How often each thing is to be met where costs that were filled in are planned.
+const PLANNED: [(&str, usize); 18] = [
+    ("best plan: refusal 9", 1_000),
+    ("best plan: several modules", 3_500),
+    ("best plan: more than two modules", 1_200),
+    ("best plan: several copies of the slowest", 3_500),
+    ("best plan: bottleneck not a whole number", 2_500),
+    ("greedy plan: several modules", 40_000),
+    ("greedy plan: refusal 11", 40_000),
+    ("judge: figures", 12_000),
+    ("judge: several copies of the slowest", 1_500),
+    ("reach: 0", 300),
+    ("reach: the first task itself", 380),
+    ("reach: in the middle", 85),
+    ("reach: one short of k", 440),
+    ("reach: k", 17_000),
+    ("greedy plan: refusal 11, not by needs added up", 600),
+    ("judge: refusal 14, not by needs added up", 450),
+    (
+        "block time: more than the slowest response, several modules",
+        50_000,
+    ),
+    ("reach: shorter than by needs added up", 500),
+];
+
 #[test]
 fn filled_in_and_planned() {
     let mut tally = Tally::default();
@@ -79,29 +104,7 @@ fn filled_in_and_planned() {
     for kind in LAW_KINDS {
         assert_answers(kind, &tally);
     }
-    for (what, least) in [
-        ("best plan: refusal 9", 1_000),
-        ("best plan: several modules", 3_500),
-        ("best plan: more than two modules", 1_200),
-        ("best plan: several copies of the slowest", 3_500),
-        ("best plan: bottleneck not a whole number", 2_500),
-        ("greedy plan: several modules", 40_000),
-        ("greedy plan: refusal 11", 40_000),
-        ("judge: figures", 12_000),
-        ("judge: several copies of the slowest", 1_500),
-        ("reach: 0", 300),
-        ("reach: the first task itself", 380),
-        ("reach: in the middle", 85),
-        ("reach: one short of k", 440),
-        ("reach: k", 17_000),
-        ("greedy plan: refusal 11, not by needs added up", 600),
-        ("judge: refusal 14, not by needs added up", 450),
-        (
-            "block time: more than the slowest response, several modules",
-            50_000,
-        ),
-        ("reach: shorter than by needs added up", 500),
-    ] {
+    for (what, least) in PLANNED {
         tally.assert_at_least(what, least);
     }
 }

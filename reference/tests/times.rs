@@ -1,12 +1,14 @@
 //! Document 02, M-104, "Equally good, more finely": how often the files that are made have plans of equal bottleneck and equal
 //! cores, and what decides between these; and times as great as can be.
 
+use reference::answer::{Answer, Refusal};
 use reference::cases::{self, small_of_each};
 use reference::compare::{self, Both, Difference, Lent};
 use reference::costs::{self, Chain, MOST_TASKS, MOST_VALUE};
 use reference::every::{self, each_plan};
 use reference::plan::{self, Module};
 use reference::random::Random;
+use reference::round::dynamic::expect_least;
 use reference::services::{LIBRARY, QUICK_REFERENCE, REFERENCE};
 use reference::tally::Tally;
 
@@ -48,55 +50,72 @@ fn sends_cheaply(chain: &Chain, plan: &[Module]) -> bool {
     })
 }
 
-/// What is met in a file: each thing once. Module order alone, as it was before, is the first of the equals.
+/// Whether it is so, and what.
+type Particular = (bool, &'static str);
+
+/// What is said of the best plan among its equals. Module order alone, as it was before, is the first of them.
+fn of_best(chain: &Chain, best: &[Module], equals: &[Vec<Module>]) -> [Particular; 6] {
+    let time = plan::block_time(chain, best);
+    let is_another = equals[0] != best;
+    let as_quick = |rival: &Vec<Module>| plan::block_time(chain, rival) == time;
+    let several = equals.iter().filter(|&rival| as_quick(rival)).count() > 1;
+    [
+        (equals.len() == 1, "the only one"),
+        (is_another, "not the first in module order, by time"),
+        (
+            is_another && !same_split(&equals[0], best),
+            "not the first in module order, by time: another split",
+        ),
+        (
+            is_another && sends_cheaply(chain, best),
+            "not the first in module order, by time: cheap external transfers",
+        ),
+        (
+            several,
+            "the first in module order of several that take as long",
+        ),
+        (is_another && several, "by time and then by module order"),
+    ]
+}
+
+/// What is said of those of the equals that take longer than the best plan.
+fn of_longer(chain: &Chain, best: &[Module], equals: &[Vec<Module>]) -> [Particular; 5] {
+    let time = plan::block_time(chain, best);
+    let is_longer = |rival: &&Vec<Module>| plan::block_time(chain, rival) > time;
+    let longer: Vec<&Vec<Module>> = equals.iter().filter(is_longer).collect();
+    let some = |is_so: &dyn Fn(&Vec<Module>) -> bool| longer.iter().any(|&rival| is_so(rival));
+    [
+        (!longer.is_empty(), "some equal one takes longer"),
+        (
+            some(&|rival| plan::block_time(chain, rival) == time + 1),
+            "some equal one takes a tick longer",
+        ),
+        (
+            some(&|rival| !same_split(rival, best)),
+            "some equal one of another split takes longer",
+        ),
+        (
+            some(&|rival| exchanges(&rival[..1], &best[..1])),
+            "some equal one with r and p exchanged in the first module takes longer",
+        ),
+        (
+            some(&|rival| rival[0] == best[0] && exchanges(rival, best)),
+            "some equal one with r and p exchanged behind the first module takes longer",
+        ),
+    ]
+}
+
+/// What is met in a file: each thing once.
 fn met(chain: &Chain) -> Vec<&'static str> {
     let Some(best) = every::search(chain) else {
         return vec!["no plan"];
     };
-    let time = |plan: &[Module]| plan::block_time(chain, plan);
     let equals = equals(chain, &best);
-    let others = || equals.iter().filter(|&rival| *rival != best);
-    let later = || others().filter(|rival| time(rival) > time(&best));
-    assert!(others().all(|rival| time(rival) >= time(&best)));
-    let is_another = equals[0] != best;
-    let particulars = [
-        (equals.len() == 1, "the only one"),
-        (later().next().is_some(), "some equal one takes longer"),
-        (
-            later().any(|rival| time(rival) == time(&best) + 1),
-            "some equal one takes a tick longer",
-        ),
-        (is_another, "not the first in module order, by time"),
-        (
-            is_another && !same_split(&equals[0], &best),
-            "not the first in module order, by time: another split",
-        ),
-        (
-            is_another && sends_cheaply(chain, &best),
-            "not the first in module order, by time: cheap external transfers",
-        ),
-        (
-            others().any(|rival| time(rival) == time(&best)),
-            "the first in module order of several that take as long",
-        ),
-        (
-            is_another && others().any(|rival| time(rival) == time(&best)),
-            "by time and then by module order",
-        ),
-        (
-            later().any(|rival| !same_split(rival, &best)),
-            "some equal one of another split takes longer",
-        ),
-        (
-            later().any(|rival| exchanges(&rival[..1], &best[..1])),
-            "some equal one with r and p exchanged in the first module takes longer",
-        ),
-        (
-            later().any(|rival| rival[0] == best[0] && exchanges(rival, &best)),
-            "some equal one with r and p exchanged behind the first module takes longer",
-        ),
-    ];
-    let met = particulars.into_iter().filter(|(is_so, _)| *is_so);
+    let time = |plan: &Vec<Module>| plan::block_time(chain, plan);
+    assert!(equals.iter().all(|rival| time(rival) >= time(&best)));
+    let of_best = of_best(chain, &best, &equals).into_iter();
+    let particulars = of_best.chain(of_longer(chain, &best, &equals));
+    let met = particulars.filter(|(is_so, _)| *is_so);
     met.map(|(_, what)| what).collect()
 }
 
@@ -194,4 +213,28 @@ fn greatest_times() {
     }
     tally.print("best plans of nearly the greatest times");
     tally.assert_at_least("not the first in module order, by time", 20);
+}
+
+/// The dynamic programs, which hold the large files, tell the best plan's figures and time from all others.
+#[test]
+fn dynamic_programs_tell_wrong_figures() {
+    for case in small_of_each(30) {
+        let chain = case.chain();
+        let is_told = |answer: Answer, time| expect_least(&chain, answer, time).is_err();
+        let (answer, bytes) = REFERENCE.best_filled(&case.costs);
+        if answer.refusal == 9 {
+            let no_refusal = Answer {
+                refusal: 0,
+                ..answer
+            };
+            assert!(!is_told(answer, 0) && is_told(no_refusal, 0));
+            continue;
+        }
+        let time = plan::block_time(&chain, &plan::used(&bytes));
+        let (cores, response) = (answer.cores + 1, answer.response + 1);
+        assert!(!is_told(answer, time) && is_told(answer, time + 1));
+        assert!(is_told(Answer { cores, ..answer }, time));
+        assert!(is_told(Answer { response, ..answer }, time));
+        assert!(is_told(Refusal::new(9).into(), time));
+    }
 }

@@ -74,15 +74,16 @@ module _ (s : List ℕ) (b : Board) (c : IsCosts s b) (ms : List Module) (keeps 
         mul-le-mul-right {m = 2 * (b .tasks - 1) + 1} {n = 23} mostValue (omega (arith, c .ranged .most-tasks)),
       )
 
--- ---- M-104: the single-block time "adds each task's execution and each transfer once, at the plan's cores"
+-- ---- M-104: the single-block time "adds each task's execution and each transfer once, at the plan's cores", of every plan of the whole chain,
+-- whatever rules it breaks besides
 
-module _ (c : Chain) (ms : List Module) (keeps : keepsRules c ms ≡ true) where
+module _ (c : Chain) (ms : List Module) (covered : covers (c .tasks) 1 ms ≡ true) where
   pub block-time-tasks : blockTime c ms ≡ onceEach c ms
-  block-time-tasks = timing.time-tasks c (c .tasks) 1 ms (kept.keeps-parts c ms keeps .0)
+  block-time-tasks = timing.time-tasks c (c .tasks) 1 ms covered
 
   -- it is the sum of the modules' responses less each external transfer once
   pub block-time-responses : blockTime c ms + externals c ms ≡ sum (responses c 0 ms)
-  block-time-responses = timing.time-responses c (c .tasks) ms (kept.keeps-parts c ms keeps .0)
+  block-time-responses = timing.time-responses c (c .tasks) ms covered
 
 -- ---- M-102: no module of a plan that keeps the rules goes beyond its reach
 

@@ -9,7 +9,8 @@ use borrow.Author.Tests.{le-leb, lt-leb, eq-eqb, ne-eqb}
 use Rattle.modules.specs.declared.Module.{Module}
 use Rattle.modules.specs.Model.{Chain, gather, body, transfer}
 use Rattle.modules.proofs.Sums.{gather-none, gather-split, gather-same}
-use Rattle.modules.proofs.Amounts.{CostsMost, gather-most, no-sender, no-receiver, passage-parts, response-passage}
+use Rattle.modules.proofs.Amounts.{CostsMost, gather-most, no-sender, no-receiver}
+use Rattle.modules.proofs.Laws.{passage-parts, response-passage}
 use Rattle.figures.specs.Model.{responses, blockTime}
 use Rattle.figures.specs.Rules.{covers}
 use Rattle.figures.specs.Claims.{coresAt, endsAt, executionIn, transferIn, sum, externals}
@@ -116,12 +117,12 @@ module _ (c : Chain) (k : ℕ) where
   unfolding sum responses blockTime externals
   responses-add s t m [] e =
       let z = covers-head k t m [] e in
-      let p = response-passage c s t (m .last) (m .copies) (m .cores) 0 in
+      let p = response-passage c t (m .last) (m .copies) (m .cores) 0 s in
       rw (z .0) (omega (arith, p, no-receiver c (m .last) (m .cores)))
   responses-add s t m (x ∷ ms) e =
       let z = covers-head k t m (x ∷ ms) e in
       let r = responses-add (m .cores) (m .last + 1) x ms (z .5) in
-      let p = response-passage c s t (m .last) (m .copies) (m .cores) (x .cores) in
+      let p = response-passage c t (m .last) (m .copies) (m .cores) (x .cores) s in
       let l : transfer c (m .last + 1 - 1) (m .cores) (x .cores) ≡ transfer c (m .last) (m .cores) (x .cores) = ap (λ (i : ℕ). transfer c i (m .cores) (x .cores)) (omega arith) in
       rw (z .0) (omega arith)
 

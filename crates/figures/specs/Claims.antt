@@ -51,11 +51,12 @@ transferIn c ms t = cond (endsAt ms t) (c .external t (coresAt ms t) (coresAt ms
 abbrev pub onceEach : Chain → List Module → ℕ
 onceEach c ms = gather (executionIn c ms) (transferIn c ms) 1 (c .tasks)
 
--- the sum of numbers, and the external transfers of a plan, from each module to the next
+-- the sum of numbers
 unfoldable pub sum : List ℕ → ℕ
 sum [] = 0
 sum (x ∷ xs) = x + sum xs
 
+-- the external transfers of a plan, from each module to the next
 unfoldable pub externals : Chain → List Module → ℕ
 externals c [] = 0
 externals c (m ∷ ms) = transfer c (m .last) (m .cores) (headCores ms) + externals c ms

@@ -1,7 +1,7 @@
 -- What holds of Judge (document 01, "Three services", "Plan bytes", refusals 7 and 12 to 15; document 02, M-100, refusal 16) and of
 -- the single-block time of what it passes (M-104): the laws that a reader looks for. The definitions are in specs/Judge and specs/Timed;
 -- specs/Claims has the direct statements. Assumes nothing.
-use mathlib.Core.Path.{_≡_, refl, sym, ap, _∙_}
+use mathlib.Core.Path.{_≡_, ap, _∙_}
 use mathlib.Core.Bool.{Bool}
 use mathlib.Core.List.{List}
 use mathlib.Core.Logic.{_↔_}

@@ -15,8 +15,7 @@ use Rattle.records.proofs.Cases.{lt-or-le, true-not-false, false-unless}
 use Rattle.modules.specs.Model.{Chain, response, transfer, body}
 use Rattle.modules.specs.Rules.{share, shares, moduleRules, stillKept, copiesAllowed}
 use Rattle.modules.specs.Reach.{reach}
-use Rattle.modules.proofs.Amounts.{passage-parts, response-passage}
-use Rattle.modules.proofs.Laws.{shares-more, rules-drop, rules-apart, rules-longer, rules-reach}
+use Rattle.modules.proofs.Laws.{passage-parts, response-passage, shares-more, rules-drop, rules-apart, rules-longer, rules-reach}
 use Rattle.search.specs.Least.{pick, lesser, least}
 use Rattle.search.specs.Copies.{loadOf, fewest}
 use Rattle.search.specs.Plan.{cap}
@@ -74,7 +73,7 @@ holds-set {b} {w} h i v l g = record {
 pub response-parts : (c : Chain) (s t l r p q : ℕ) → response c s (t + 1) l r p q ≡ transfer c t s p + body c (t + 1) l p + transfer c l p q
 response-parts c s t l r p q =
     let e : transfer c (t + 1 - 1) s p ≡ transfer c t s p = ap (λ (i : ℕ). transfer c i s p) (omega arith) in
-    omega (arith, response-passage c s (t + 1) l r p q, passage-parts c (t + 1) l r p q)
+    omega (arith, response-passage c (t + 1) l r p q s, passage-parts c (t + 1) l r p q)
 
 -- where it keeps the rules in one copy, only its copies are left to ask for
 pub one-rules : (c : Chain) (first last r p : ℕ) → moduleRules c first last 1 p ≡ true → moduleRules c first last r p ≡ copiesAllowed c first last r
@@ -95,7 +94,7 @@ loaded reached keeps comes low body copies = record {
 -- ---- over the copies: r are the fewest that are enough, and their load is the same for each number of copies
 
 module _ {c : Chain} {s t q l base stay : ℕ} {rep : Bool} (h : Loaded c s t q l base stay rep) (n q′ : ℕ) {sent r : ℕ} (is-sent : sent ≡ transfer c l q q′)
-    (is-fewest : r ≡ fewest rep ((base + sent) * grain) ((base + sent) * grain) n) (some : 1 ≤ q) (rest : Table) where
+    (is-fewest : r ≡ fewest rep ((base + sent) * grain) ((base + sent) * grain) n) (some : 1 ≤ q) where
   -- its load
   abbrev load : ℕ
   load = (base + sent) * grain
@@ -116,13 +115,6 @@ module _ {c : Chain} {s t q l base stay : ℕ} {rep : Bool} (h : Loaded c s t q 
   priced : price c t l r q q′ ≡ weighs
   priced = omega (arith, passage-parts c (t + 1) l r q q′, h .stays, is-sent)
 
-  cheapest : overCopies (problem c) (fitsAt (problem c) n) rest s t q l q′
-      ≡ pick (leb 1 r && leb (s + r * q + q′) (c .board)) (lesser (noPlan (c .board)) (weighs + rest q l q′)) (noPlan (c .board))
-  cheapest =
-      rw (← (chain-cap c), ← priced, is-fewest)
-      (overCopies-at (problem c) n s t q l q′ true rep load load allows loads (h .reached .later) (reached-inside (h .reached)) some (le-refl load) rest
-      (λ i j. tiered-rises (problem c) (ticks c) (problem-tiered c) s t l i j q q′ (omega (arith, passage-parts c (t + 1) l i q q′, passage-parts c (t + 1) l j q q′))))
-
   -- M-104: where there are copies, on a board of at most 32 cores and at a threshold in range, what they weigh with any rest that the table
   -- holds is below 2³²
   pub weighs-few : 1 ≤ r → s + r * q + q′ ≤ c .board → c .board ≤ 32 → n ≤ topThreshold → (v : ℕ) → v ≤ noPlan (c .board) → weighs + v < 4294967296
@@ -133,18 +125,26 @@ module _ {c : Chain} {s t q l base stay : ℕ} {rep : Bool} (h : Loaded c s t q 
       let f = pick-ge (leb r 1) load load load (λ _. le-refl load) (le-refl load) in
       omega (arith, h .taken, mul-le-mul {n₁ = n} {m₁ = r} {n₂ = topThreshold} {m₂ = 32} within (omega arith))
 
-  -- no number of copies is enough, or there is no room for the fewest
-  pub copies-none : (1 ≤ r → s + r * q + q′ ≤ c .board → ⊥) → noPlan (c .board) ≡ overCopies (problem c) (fitsAt (problem c) n) rest s t q l q′
-  copies-none f =
-      let a = leb 1 r in
-      let b = leb (s + r * q + q′) (c .board) in
-      sym (cheapest ∙ pick-no (a && b) _ _ (not-T (a && b) (λ u. f (leb→le 1 r (and-l a b u)) (leb→le (s + r * q + q′) (c .board) (and-r a b u)))))
+  module _ (rest : Table) where
+    cheapest : overCopies (problem c) (fitsAt (problem c) n) rest s t q l q′
+        ≡ pick (leb 1 r && leb (s + r * q + q′) (c .board)) (lesser (noPlan (c .board)) (weighs + rest q l q′)) (noPlan (c .board))
+    cheapest =
+        rw (← (chain-cap c), ← priced, is-fewest)
+        (overCopies-at (problem c) n s t q l q′ true rep load load allows loads (h .reached .later) (reached-inside (h .reached)) some (le-refl load) rest
+        (λ i j. tiered-rises (problem c) (ticks c) (problem-tiered c) s t l i j q q′ (omega (arith, passage-parts c (t + 1) l i q q′, passage-parts c (t + 1) l j q q′))))
 
-  pub copies-some : 1 ≤ r → s + r * q + q′ ≤ c .board → lesser (noPlan (c .board)) (weighs + rest q l q′) ≡ overCopies (problem c) (fitsAt (problem c) n) rest s t q l q′
-  copies-some u v =
-      let a = leb 1 r in
-      let b = leb (s + r * q + q′) (c .board) in
-      sym (cheapest ∙ pick-yes (a && b) _ _ (and-i a b (le→leb 1 r u) (le→leb (s + r * q + q′) (c .board) v)))
+    -- no number of copies is enough, or there is no room for the fewest
+    pub copies-none : (1 ≤ r → s + r * q + q′ ≤ c .board → ⊥) → noPlan (c .board) ≡ overCopies (problem c) (fitsAt (problem c) n) rest s t q l q′
+    copies-none f =
+        let a = leb 1 r in
+        let b = leb (s + r * q + q′) (c .board) in
+        sym (cheapest ∙ pick-no (a && b) _ _ (not-T (a && b) (λ u. f (leb→le 1 r (and-l a b u)) (leb→le (s + r * q + q′) (c .board) (and-r a b u)))))
+
+    pub copies-some : 1 ≤ r → s + r * q + q′ ≤ c .board → lesser (noPlan (c .board)) (weighs + rest q l q′) ≡ overCopies (problem c) (fitsAt (problem c) n) rest s t q l q′
+    copies-some u v =
+        let a = leb 1 r in
+        let b = leb (s + r * q + q′) (c .board) in
+        sym (cheapest ∙ pick-yes (a && b) _ _ (and-i a b (le→leb 1 r u) (le→leb (s + r * q + q′) (c .board) v)))
 
 -- ---- over the last task
 

@@ -9,3 +9,4 @@ pub mod Outcomes
 pub mod Refusals
 pub mod Serving
 pub mod Theorems
+pub mod Weighing

@@ -34,7 +34,8 @@ use Rattle.search.proofs.Outcome.{answer-best}
 use Rattle.planners.specs.Search.{grain, problem, topThreshold}
 use Rattle.planners.specs.Best.{isBetter, bestPlan}
 use Rattle.planners.specs.Claims.{ComesFirst}
-use Rattle.planners.proofs.Instance.{Quick, problem-laws, problem-small, valid-covers, keeps-rules, rules-keeps, matched, less-same, more-same, weight-order, better-decides, best-searched}
+use Rattle.planners.proofs.Instance.{problem-small, valid-covers, keeps-rules, rules-keeps, less-same, more-same}
+use Rattle.planners.proofs.Weighing.{Quick, problem-laws, matched, weight-order, better-decides, best-searched}
 
 -- where no load of a plan is above most, the search's numerator is not
 numerator-most : (c : Chain) (most s t n : ℕ) (ms : List Module) → T (valid (c .tasks) (rules (problem c)) s t ms) → ((y : Slowest) → List·Memᴰ y (loads c s n ms) → y .response ≤ most)

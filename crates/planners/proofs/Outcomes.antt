@@ -10,6 +10,7 @@ use lib.ListN.{length, take, drop, length-append}
 use lib.Seq.{take-at}
 use borrow.Author.Tests.{eq-eqb, le-leb, eqb-true, leb-true}
 use Rattle.records.specs.Costs.{readCosts}
+use Rattle.records.specs.Filled.{filledIn}
 use Rattle.records.specs.Format.{IsCosts}
 use Rattle.records.proofs.Cases.{and-true}
 use Rattle.records.proofs.Laws.{accepted-costs}
@@ -18,11 +19,13 @@ use Rattle.modules.specs.Model.{Chain, chainOf}
 use Rattle.layout.specs.Layout.{mostModules, planBytes, encodePlan}
 use Rattle.layout.proofs.Placing.{encode-length}
 use Rattle.figures.specs.declared.Answer.{Answer}
+use Rattle.figures.specs.Model.{blockTime}
 use Rattle.figures.specs.Rules.{keepsRules}
 use Rattle.figures.specs.Plan.{figuresOf, refusal}
 use Rattle.judge.specs.Judge.{judged}
-use Rattle.judge.specs.Claims.{Passes}
-use Rattle.judge.proofs.Laws.{judge-passes, judge-figures}
+use Rattle.judge.specs.Timed.{blockTimeAnswer}
+use Rattle.judge.specs.Claims.{Passes, Times.timed}
+use Rattle.judge.proofs.Laws.{judge-passes, judge-figures, block-time-exactly}
 use Rattle.planners.specs.Best.{workWords, bestPlan, foundAnswer, foundBytes, begins, bestAnswer, bestBytes}
 use Rattle.planners.specs.Claims.{ComesFirst, Filled}
 use Rattle.planners.proofs.Optimal.{found-best, found-none}
@@ -62,14 +65,22 @@ module _ (s w work : List ℕ) (began : begins s w work ≡ true) where
   pub outcome : Outcome
   outcome = outcome-of (bestPlan c) refl
 
-  -- Judge passes the plan filled in, and answers its figures
-  pub judge-agrees : (a : List Module) → Filled s w work a → judged s (bestBytes s w work) ≡ bestAnswer s w work
-  judge-agrees a f =
-      let l = encode-length mostModules a in
-      let e : take planBytes (bestBytes s w work) ≡ encodePlan a = ap (take planBytes) (f .bytes) ∙ take-at (encodePlan a) (drop planBytes w) planBytes l in
-      let long : planBytes ≤ length (bestBytes s w work) = omega (arith, ap length (f .bytes), length-append (encodePlan a) (drop planBytes w)) in
-      let p : Passes s (bestBytes s w work) = record { readable = record { accepted = begun .0; long = long }; modules = a; bytes = sym e; keeps = f .keeps } in
-      judge-figures s (bestBytes s w work) p ∙ sym (f .figures)
+  -- Judge passes the plan filled in, and answers its figures; its single-block time is answered too (M-104)
+  module _ (a : List Module) (f : Filled s w work a) where
+    filled-passes : Passes s (bestBytes s w work)
+    filled-passes =
+        let l = encode-length mostModules a in
+        let e : take planBytes (bestBytes s w work) ≡ encodePlan a = ap (take planBytes) (f .bytes) ∙ take-at (encodePlan a) (drop planBytes w) planBytes l in
+        let long : planBytes ≤ length (bestBytes s w work) = omega (arith, ap length (f .bytes), length-append (encodePlan a) (drop planBytes w)) in
+        record { readable = record { accepted = begun .0; long = long }; modules = a; bytes = sym e; keeps = f .keeps }
+
+    pub judge-agrees : judged s (bestBytes s w work) ≡ bestAnswer s w work
+    unfolding filled-passes
+    judge-agrees = judge-figures s (bestBytes s w work) filled-passes ∙ sym (f .figures)
+
+    pub time-agrees : blockTimeAnswer s (bestBytes s w work) ≡ filledIn (blockTime c a)
+    unfolding filled-passes
+    time-agrees = block-time-exactly s (bestBytes s w work) _ .1 (timed filled-passes)
 
 -- what each outcome says of the answer's number
 module _ (s w work : List ℕ) (began : begins s w work ≡ true) where

@@ -29,7 +29,8 @@ use Rattle.search.proofs.Answer.{finds}
 use Rattle.planners.specs.Search.{problem, noPlan, topThreshold, Sized, Holds, AllReached}
 use Rattle.planners.specs.Best.{workWords, isBetter, bestPlan, foundAnswer, foundBytes, begins, bestAnswer, bestBytes, bestWork}
 use Rattle.planners.proofs.Cells.{chain-cap, cells-few}
-use Rattle.planners.proofs.Instance.{problem-priced, problem-laws, problem-small, keeps-rules, better-decides, best-searched}
+use Rattle.planners.proofs.Instance.{problem-priced, problem-small, keeps-rules}
+use Rattle.planners.proofs.Weighing.{problem-laws, better-decides, best-searched}
 use Rattle.planners.proofs.Optimal.{quick, best-answer}
 
 -- a list of one number reads as that number, also past its end

@@ -6,10 +6,13 @@ use mathlib.Core.Bool.{true}
 use mathlib.Core.List.{List}
 use mathlib.Core.Logic.{_↔_}
 use Prim.Native.Nat.{ℕ}
+use Rattle.records.specs.Filled.{filledIn}
 use Rattle.modules.specs.declared.Module.{Module}
+use Rattle.figures.specs.Model.{blockTime}
 use Rattle.figures.specs.Rules.{keepsRules}
 use Rattle.figures.specs.Plan.{refusal}
 use Rattle.judge.specs.Judge.{judged}
+use Rattle.judge.specs.Timed.{blockTimeAnswer}
 use Rattle.judge.specs.Claims.{chain, Passes}
 use Rattle.planners.specs.Best.{begins, bestAnswer, bestBytes}
 use Rattle.planners.specs.Claims.{ComesFirst, Filled}
@@ -39,3 +42,7 @@ module _ (s w work : List ℕ) (began : begins s w work ≡ true) where
   -- and Judge passes it and answers the same figures
   pub judge-same : bestAnswer s w work .number ≡ 0 → judged s (bestBytes s w work) ≡ bestAnswer s w work
   judge-same e = let (a, f) = fills-best e in outcomes.judge-agrees s w work began a f
+
+  -- and the single-block time that is answered for it is the one by which it comes first (M-104)
+  pub time-same : bestAnswer s w work .number ≡ 0 → (a : List Module) × Filled s w work a × (blockTimeAnswer s (bestBytes s w work) ≡ filledIn (blockTime (chain s w) a))
+  time-same e = let (a, f) = fills-best e in (a, f, outcomes.time-agrees s w work began a f)

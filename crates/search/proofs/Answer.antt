@@ -13,7 +13,6 @@ use Rattle.modules.specs.declared.Module.{Module}
 use Rattle.figures.specs.Model.{coresOf}
 use Rattle.search.specs.Plan.{Problem, valid, cap}
 use Rattle.search.specs.Bottleneck.{rules, planBottleneck, Keeps, Small}
-use Rattle.search.specs.Order.{better}
 use Rattle.search.specs.Best.{planWeight, light, plan, Feasible, Bottom, Laws}
 use Rattle.search.specs.Every.{every, keeps, searchBy}
 use Rattle.search.specs.Answer.{feasible, firstFeasible, answer, Decides}
@@ -21,22 +20,11 @@ use Rattle.search.specs.Outcome.{NoPlan}
 use Rattle.search.proofs.Tests.{and-l, and-r, and-i, cond-case}
 use Rattle.search.proofs.Find.{find-yes, find-le}
 use Rattle.search.proofs.Bottleneck.{rules-fair}
-use Rattle.search.proofs.Order.{lowerOr-out, lowerOr-in, beats-top, beats-ahead}
+use Rattle.search.proofs.Order.{beats-top, beats-ahead}
 use Rattle.search.proofs.Best.{plan-keeps, best, feasible-some}
 use Rattle.search.proofs.Every.{every-sorted, every-has, scan-none, scan-finds}
 
 module _ (X : Problem) where
-  -- a weighs less than b
-  abbrev lighter : List Module → List Module → Bool
-  lighter a b = ltb (planWeight X a) (planWeight X b)
-
-  -- comparing by bottleneck and weight decides
-  pub by-weight : Decides X (better (planBottleneck X) (planWeight X))
-  by-weight = record {
-    sound = λ a b ka kb t. lowerOr-out (planBottleneck X) (planWeight X) a b lighter (λ u. ltb→lt _ _ u) t;
-    complete = λ a b ka kb h. lowerOr-in (planBottleneck X) (planWeight X) a b lighter (λ u. lt→ltb _ _ u) h;
-  }
-
   -- ---- the test of a plan
 
   module _ (ms : List Module) where

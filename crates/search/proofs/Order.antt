@@ -1,17 +1,14 @@
--- Module order is strict, and how two plans compare: nothing is better than what beats it, and the test of a better plan is right.
--- By cases on the first place where two plans differ.
-use Prim.Native.Nat.{ℕ, _*_, _<_}
+-- Module order is strict, and how two plans compare: nothing is better than what beats it. By cases on the first place where two
+-- plans differ.
+use Prim.Native.Nat.{ℕ}
 use native.Mathlib.Omega.{arith}
-use mathlib.Core.Bool.{Bool, _&&_}
 use mathlib.Core.Logic.{inl, inr}
 use mathlib.Core.List.{List, [], _∷_}
-use lib.Dec.{T, ltb, ltb→lt, lt→ltb, eqb, eqb→eq}
 use Rattle.modules.specs.declared.Module.{Module}
 use Rattle.figures.specs.Plan.{ModuleBefore, Before}
 use Rattle.search.specs.Fraction.{Frac, AtMost}
-use Rattle.search.specs.Order.{Beats, lowerOr}
+use Rattle.search.specs.Order.{Beats}
 use Rattle.search.specs.Answer.{Better}
-use Rattle.search.proofs.Tests.{and-l, and-r, and-i, or-e, or-l, or-r, eq→eqb}
 
 -- ---- module order is strict
 
@@ -38,26 +35,6 @@ before-asym (x ∷ xs) (y ∷ ys) (inr (e, a)) (inr (d, b)) = before-asym xs ys 
 -- ---- how two plans compare
 
 module _ (f : List Module → Frac) (g : List Module → ℕ) (a b : List Module) where
-  -- the test of a lower bottleneck, or of the same one where the test c decides, is Better where c is a test of a lower measure
-  module _ (c : List Module → List Module → Bool) where
-    -- a lower bottleneck
-    abbrev low : Bool
-    low = ltb (f a .num * f b .den) (f b .num * f a .den)
-
-    -- the same bottleneck
-    abbrev level : Bool
-    level = eqb (f a .num * f b .den) (f b .num * f a .den)
-
-    pub lowerOr-out : (T (c a b) → g a < g b) → T (lowerOr f c a b) → Better f g a b
-    lowerOr-out h t = elim (or-e low (level && c a b) t) [
-      | inl u ↦ inl (ltb→lt _ _ u)
-      | inr u ↦ inr (eqb→eq _ _ (and-l level (c a b) u), h (and-r level (c a b) u))
-    ]
-
-    pub lowerOr-in : (g a < g b → T (c a b)) → Better f g a b → T (lowerOr f c a b)
-    lowerOr-in h (inl d) = or-l low (level && c a b) (lt→ltb _ _ d)
-    lowerOr-in h (inr (e, d)) = or-r low (level && c a b) (and-i level (c a b) (eq→eqb _ _ e) (h d))
-
   -- nothing is better than what beats it
   pub beats-top : Beats f g a b → Better f g b a → ⊥
   unfolding Beats

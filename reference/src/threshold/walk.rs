@@ -41,7 +41,8 @@ impl Within<'_> {
         response * GRAIN <= self.n * copies as u64
     }
 
-    /// What the module weighs before one of q cores: its cores, its body and what it sends. The board has so many cores.
+    /// What the module weighs before one of q cores: its cores, its body and what it sends. The board has as many cores, so that this
+    /// fits 32 bits.
     fn price(&self, module: Module, q: usize) -> u32 {
         let stay = self.costs.body(module.first, module.last, module.cores);
         let sent = self.costs.transfer(module.last, module.cores, q);

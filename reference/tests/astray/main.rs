@@ -22,7 +22,7 @@ use reference::tally::Tally;
 use reference::written::{self, Line};
 
 /// As many files and as many laws, from seeds, as any mistake needs.
-const FILES: u64 = 1_800;
+const FILES: u64 = 900;
 const LAWS: u64 = 6_000;
 
 /// The service in which the first difference shows, and the file's seed: on accepted files, or else on damaged ones.

@@ -158,6 +158,7 @@ fn continue_kept(chain: &Chain, kept: &mut Kept, plan: &[Module]) {
     }
 }
 
+/// By the bottleneck alone, since both have as many cores; of equals the first is kept, whatever its time.
 fn keep_better(chain: &Chain, kept: &mut Kept, rival: Vec<Module>) {
     let covered = rival.last().map_or(0, |module| module.last);
     let former = &mut kept[covered][plan::cores(&rival)];
@@ -176,7 +177,7 @@ pub fn best_in_turn(by: &[Compare], chain: &Chain) -> Option<Vec<Module>> {
 }
 
 pub fn ignores_cores(chain: &Chain) -> Option<Vec<Module>> {
-    best_in_turn(&[BY_BOTTLENECK], chain)
+    best_in_turn(&[BY_BOTTLENECK, BY_TIME], chain)
 }
 
 /// The last plan in module order of those of least bottleneck, fewest cores and least time.

@@ -3,6 +3,7 @@
 mod answers;
 mod orders;
 mod sums;
+mod walks;
 
 use super::{Mistake, in_best_plan};
 use reference::answer::{Answer, Filled};
@@ -15,7 +16,8 @@ use reference::services::{REFERENCE, Services};
 /// All of them.
 pub fn mistakes() -> impl Iterator<Item = Mistake> {
     let sums = IN_BOTH.into_iter().flatten();
-    sums.chain(orders::MISTAKES).chain(answers::MISTAKES)
+    let orders = orders::MISTAKES.into_iter().chain(walks::MISTAKES);
+    sums.chain(orders).chain(answers::MISTAKES)
 }
 
 /// Those that break the ties of Best plan by a wrong time.

@@ -86,7 +86,7 @@ cast-ticks : tie.Need-cast-ticks
 cast-ticks c =
     let o = c .before .before .before .before .before in
     let b = o .before .before .before .before .before in
-    let few = weighs-few (b .pre .2) _ _ (o .before .transfer .ensures) (o .fewest-copies .ensures) (b .pre .1 .some-cores) (λ s t q. 0)
+    let few = weighs-few (b .pre .2) _ _ (o .before .transfer .ensures) (o .fewest-copies .ensures) (b .pre .1 .some-cores)
     (omega arith) (omega arith) (omega arith) (omega arith) 0 (omega arith) in
     omega arith
 
@@ -100,7 +100,7 @@ add-lesser-2 : tie.Need-add-lesser-2
 add-lesser-2 c =
     let o = c .before .before .before .before .before .before in
     let b = o .before .before .before .before .before in
-    let few = weighs-few (b .pre .2) _ _ (o .before .transfer .ensures) (o .fewest-copies .ensures) (b .pre .1 .some-cores) (λ s t q. 0)
+    let few = weighs-few (b .pre .2) _ _ (o .before .transfer .ensures) (o .fewest-copies .ensures) (b .pre .1 .some-cores)
     (omega arith) (omega arith) (omega arith) (omega arith) (c .read-table .result) (c .read-table .ensures .1) in
     omega arith
 
