@@ -5,17 +5,17 @@
  *  - pointer and count belong together: that many elements can be read there and, where the pointer is not to const,
  *    written;
  *  - what is lent to one call does not overlap, and nobody else writes to it, or reads what the call writes, meanwhile;
- *  - `work` is aligned as uint32_t is;
+ *  - `work` is aligned as uint32_t is, and `table` as uint64_t;
  *  - an empty slice has count 0; its pointer is not looked at and may be any.
  *
  * What a target without an operating system has to offer, measured on x86-64:
- *  - some 23 KB for code; the library has no data and no bss;
+ *  - some 25 KB for code; the library has no data and no bss;
  *  - `memset`, the only symbol that it needs from outside;
- *  - beside what is lent, stack for a call: some 700 bytes to judge, 800 for a single-block time, 1,500 for the greedy plan, 1,400 for
- *    the best, 300 to fill in costs or for a reach;
+ *  - beside what is lent, stack for a call: some 700 bytes to judge, 800 for a single-block time, 1,100 for a timetable, 1,500 for the
+ *    greedy plan, 1,400 for the best, 300 to fill in costs or for a reach;
  *  - SSE registers, and the red zone of the System V ABI: interrupts keep off the 128 bytes below the stack pointer.
  * Nothing is kept between calls, so calls from several threads, each on its own buffers, are safe. Held by tests/footprint
- * (the first two; code and constants to 24 KiB), tests/stack.c (a call to 2 KiB of stack) and tests/threads.c (two threads).
+ * (the first two; code and constants to 28 KiB), tests/stack.c (a call to 2 KiB of stack) and tests/threads.c (two threads).
  */
 #ifndef ZOMBREKI_H
 #define ZOMBREKI_H
@@ -27,9 +27,10 @@
 extern "C" {
 #endif
 
-/* The bytes of a plan, and the words that the search for the best plan takes at least. */
+/* The bytes of a plan, the words that the search for the best plan takes at least, and the most blocks of a timetable. */
 #define ZOMBREKI_PLAN_BYTES 48
 #define ZOMBREKI_WORK_WORDS 16384
+#define ZOMBREKI_MOST_BLOCKS 1000
 
 /* The number of a refusal (0 for none) and its place, or the figures of a plan. A refusal has zero figures. The costs are
  * refused with 1 to 6, the call with 7, 8 and 10, a judged plan with 12 to 16 (14: the shares of a module's tasks, each need /
@@ -59,12 +60,12 @@ struct zombreki_answer zombreki_greedy_plan(const uint8_t *costs, size_t costs_l
 struct zombreki_answer zombreki_best_plan(const uint8_t *costs, size_t costs_len, uint8_t *plan, size_t plan_len,
                                           uint32_t *work, size_t work_len);
 
-/* What the services below answer: how many bytes were filled in, the reach or the single-block time; or a refusal's number and
- * place. */
+/* What the services below answer: how many bytes or entries were filled in, the reach or the single-block time; or a refusal's
+ * number and place. */
 struct zombreki_filled {
     uint32_t refusal; /* 0, or the number of the refusal */
     uint32_t place;   /* the record or module at fault, counted from 1; 0 where none is named */
-    uint32_t count;   /* the bytes filled in, the reach or the time; 0 in a refusal */
+    uint32_t count;   /* the bytes or entries filled in, the reach or the time; 0 in a refusal */
 };
 
 /* Fills in all cost records of a board from laws for its costs. `head` is the first part of a cost file, the records of kinds 1 and 2.
@@ -88,6 +89,18 @@ struct zombreki_filled zombreki_reach(const uint8_t *costs, size_t costs_len, ui
  * of one copy of the module, or of each of the two. Copies don't enter it. At most 23,000,000. Bytes after the 48th are never read.
  * Refusals, as zombreki_judge gives them and with its places: 1 to 6 on the costs, 7 and 12 to 16 on the plan bytes. */
 struct zombreki_filled zombreki_block_time(const uint8_t *costs, size_t costs_len, const uint8_t *plan, size_t plan_len);
+
+/* The timetable of a stream of blocks through a plan with one copy of each module: entry i of the table, counted from 0, gets the tick
+ * at which the last module is through with block i + 1, for blocks 1 to n. A module receives a block, executes it, sends it, and then
+ * turns to the next one. A transfer occupies sender and receiver from start to end, and starts as soon as the sender has executed the
+ * block and the receiver is through with the one before, its sending included. The first module starts block 1 at tick 0, and each later
+ * block when it has sent the one before; the last module is through when it has executed. So, with the response B that zombreki_judge
+ * answers and the single-block time L, block b ends at (b - 1) * B + L; no entry is above 23,000,000,000.
+ * `table` takes n entries; entries after these are never written, and a refusal leaves the table as it came. Bytes of the plan after
+ * the 48th are never read. Refusals, in this order: those of zombreki_judge, with its places; 20 (a plan with copies; the place is the
+ * first module that has some); 21 (n is not 1 to ZOMBREKI_MOST_BLOCKS, or the table has fewer than n entries). */
+struct zombreki_filled zombreki_timetable(const uint8_t *costs, size_t costs_len, const uint8_t *plan, size_t plan_len,
+                                          uint32_t n, uint64_t *table, size_t table_len);
 
 #ifdef __cplusplus
 }

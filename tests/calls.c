@@ -1,5 +1,5 @@
 /* Calls the services from C on document 01's small dock, given as a file, and on laws for its costs, and checks answers, lent
- * bytes and words, and the layout of the answers. Prints what differs and ends with 1, or prints `calls: ok`. */
+ * bytes, words and entries, and the layout of the answers. Prints what differs and ends with 1, or prints `calls: ok`. */
 #include <stddef.h>
 #include <stdio.h>
 #include <string.h>
@@ -337,6 +337,74 @@ static void plans_by_time(const uint8_t *costs, size_t length)
     expect("best, by time: time", fills(zombreki_block_time(changed, length, plan, sizeof plan), 0, 0, 11));
 }
 
+/* Whether the table is these entries, and as lent behind them. */
+static int tabled(const uint64_t *table, size_t length, const uint64_t *entries, size_t count)
+{
+    for (size_t i = 0; i < length; i++)
+        if (table[i] != (i < count ? entries[i] : UINT64_MAX))
+            return 0;
+    return 1;
+}
+
+/* Document 02, M-105: module 1 executes 7 and sends 2, module 2 executes 10. So block 1 ends at 7 + 2 + 10; module 1 has executed
+ * each later block before module 2 is through with the one before, which then takes 2 + 10 for each. On one core module 1 executes
+ * 12, and takes 12 + 2 for each. */
+static void fills_tables(const uint8_t *costs, size_t length)
+{
+    uint64_t table[7];
+    uint8_t plan[52] = {1, 1, 1, 2, 2, 2, 1, 2};
+    memset(table, 255, sizeof table);
+    memset(plan + 48, 255, 4);
+    expect("table, five blocks", fills(zombreki_timetable(costs, length, plan, sizeof plan, 5, table, 7), 0, 0, 5));
+    expect("table: entries", tabled(table, 7, (uint64_t[]){19, 31, 43, 55, 67}, 5));
+    memset(table, 255, sizeof table);
+    expect("table, just enough", fills(zombreki_timetable(costs, length, plan, 48, 2, table, 2), 0, 0, 2));
+    expect("table, just enough: entries", tabled(table, 7, (uint64_t[]){19, 31}, 2));
+    plan[3] = 1;
+    memset(table, 255, sizeof table);
+    expect("table, a slower module 1", fills(zombreki_timetable(costs, length, plan, 48, 3, table, 7), 0, 0, 3));
+    expect("table, a slower module 1: entries", tabled(table, 7, (uint64_t[]){24, 38, 52}, 3));
+}
+
+/* Byte 10 is the flag of task 1, byte 20 the need of task 2. */
+static void refuses_tables(const uint8_t *costs, size_t length)
+{
+    uint64_t table[7];
+    uint8_t changed[248];
+    uint8_t plan[48] = {1, 1, 1, 2, 2, 2, 1, 2};
+    memset(table, 255, sizeof table);
+    memcpy(changed, costs, sizeof changed);
+    expect("table, one short", fills(zombreki_timetable(costs, length, plan, 48, 3, table, 2), 21, 0, 0));
+    expect("table, no block", fills(zombreki_timetable(costs, length, plan, 48, 0, table, 7), 21, 0, 0));
+    expect("table, no entry", fills(zombreki_timetable(costs, length, plan, 48, 1, NULL, 0), 21, 0, 0));
+    expect("table, short plan", fills(zombreki_timetable(costs, length, plan, 47, 0, table, 7), 7, 0, 0));
+    changed[20] = 100;
+    memcpy(plan, (uint8_t[]){1, 1, 1, 1, 2, 2, 2, 1}, 8);
+    expect("table, copies of module 2", fills(zombreki_timetable(changed, length, plan, 48, 1, table, 7), 20, 2, 0));
+    memcpy(plan, (uint8_t[]){1, 1, 2, 1, 2, 2, 1, 2}, 8);
+    expect("table, copies", fills(zombreki_timetable(costs, length, plan, 48, 0, table, 7), 20, 1, 0));
+    changed[10] = 0;
+    expect("table, copies not allowed", fills(zombreki_timetable(changed, length, plan, 48, 5, table, 7), 13, 1, 0));
+    expect("table, none", fills(zombreki_timetable(NULL, 0, NULL, 0, 0, NULL, 0), 1, 0, 0));
+    expect("table: as lent in refusals", tabled(table, 7, NULL, 0));
+}
+
+/* One module of four cores takes 4 + 1 + 6 for each block. */
+static void fills_long_tables(const uint8_t *costs, size_t length)
+{
+    const uint32_t most = ZOMBREKI_MOST_BLOCKS;
+    static uint64_t table[ZOMBREKI_MOST_BLOCKS + 1];
+    uint8_t plan[48] = {1, 2, 1, 4};
+    int even = 1;
+    memset(table, 255, sizeof table);
+    expect("table, too many blocks", fills(zombreki_timetable(costs, length, plan, 48, most + 1, table, most + 1), 21, 0, 0));
+    expect("table, too many blocks: as lent", tabled(table, most + 1, NULL, 0));
+    expect("table, the most blocks", fills(zombreki_timetable(costs, length, plan, 48, most, table, most + 1), 0, 0, most));
+    for (size_t i = 0; i < most; i++)
+        even &= table[i] == 11 * (i + 1);
+    expect("table, the most blocks: entries", even && table[most] == UINT64_MAX);
+}
+
 int main(int argc, char **argv)
 {
     uint8_t costs[249];
@@ -360,6 +428,9 @@ int main(int argc, char **argv)
     plans_by_shares(costs, length);
     times_blocks(costs, length);
     plans_by_time(costs, length);
+    fills_tables(costs, length);
+    refuses_tables(costs, length);
+    fills_long_tables(costs, length);
     if (failures)
         return 1;
     puts("calls: ok");

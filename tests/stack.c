@@ -3,8 +3,9 @@
  * what counts is the call with its arguments and its answer, and all that is called from there.
  *
  * `stack FILE..` plans and judges each of these files of cost records, which have plans and two tasks at least, times the plans,
- * fills in as many records from its first part and laws, and finds the reach of each of its tasks. Prints a line for each service
- * with the most that it took; prints what is wrong and ends with 1. Stacks grow downwards here. */
+ * fills in the timetables of the greedy ones, fills in as many records from its first part and laws, and finds the reach of
+ * each of its tasks. Prints a line for each service with the most that it took; prints what is wrong and ends with 1. Stacks
+ * grow downwards here. */
 #define _XOPEN_SOURCE 600
 #include <stdio.h>
 #include <string.h>
@@ -24,7 +25,8 @@ static uint32_t work[ZOMBREKI_WORK_WORDS];
 static struct zombreki_answer answer;
 static struct laws laws;
 static uint8_t out[LARGEST];
-static struct zombreki_filled filled, reached, timed;
+static struct zombreki_filled filled, reached, timed, tabled;
+static uint64_t table[ZOMBREKI_MOST_BLOCKS];
 static uint8_t first;
 static int failures;
 
@@ -62,6 +64,12 @@ static void call_time(void)
     timed = zombreki_block_time(costs.bytes, costs.length, plan, sizeof plan);
 }
 
+static void call_table(void)
+{
+    tabled = zombreki_timetable(costs.bytes, costs.length, plan, sizeof plan, ZOMBREKI_MOST_BLOCKS, table,
+                                ZOMBREKI_MOST_BLOCKS);
+}
+
 /* A service, and the most bytes that a call of it took. */
 struct service {
     const char *name;
@@ -74,6 +82,7 @@ static struct service best = {"zombreki_best_plan", call_best, 0};
 static struct service fill = {"zombreki_fill_costs", call_fill, 0};
 static struct service reach = {"zombreki_reach", call_reach, 0};
 static struct service block_time = {"zombreki_block_time", call_time, 0};
+static struct service timetable = {"zombreki_timetable", call_table, 0};
 
 /* The bytes from the top of a stack in this paint down to the lowest that the call changed; all of them if it did not run. */
 static size_t depth_in(uint8_t paint, void (*call)(void))
@@ -135,6 +144,18 @@ static void plans(struct service *service)
     expect(&block_time, "too little time", timed.refusal == 0 && timed.count >= planned.response);
 }
 
+/* A greedy plan has no copies: block n ends a single block's time after n - 1 times its slowest module's. */
+static void tables(void)
+{
+    int right = 1;
+    plans(&greedy);
+    memset(table, 255, sizeof table);
+    measure(&timetable);
+    for (size_t i = 0; i < ZOMBREKI_MOST_BLOCKS; i++)
+        right &= table[i] == (uint64_t)i * answer.response + timed.count;
+    expect(&timetable, "another table", tabled.count == ZOMBREKI_MOST_BLOCKS && right);
+}
+
 /* As many bytes are filled in as the file has, whose first part says the size. */
 static void fills(void)
 {
@@ -170,9 +191,12 @@ int main(int argc, char **argv)
             return 1;
         }
         plans(&best);
-        /* all tasks in one module, then task 1 in one of its own */
+        /* all tasks in one module, then task 1 in one of its own, then task 2 too */
         for (grouping = 0; grouping < 2; grouping++)
-            plans(&greedy);
+            tables();
+        grouping = 3;
+        if (costs.bytes[3] > 2)
+            tables();
         fills();
         reaches();
     }
@@ -182,5 +206,6 @@ int main(int argc, char **argv)
     bounded(&fill);
     bounded(&reach);
     bounded(&block_time);
+    bounded(&timetable);
     return failures != 0;
 }

@@ -1,8 +1,8 @@
 /* Nothing is kept between calls. `threads FILE FILE` asks the services about each of two files of cost records that have
- * plans, the reach of task 1 and a plan's single-block time included, and to fill in as many records from its first part and
- * laws; then about the first again, then about both at once, a thread to a file with buffers of its own: answers, plan bytes,
- * work area and records filled in are always those of the first time. Prints what is wrong and ends with 1, or prints
- * `threads: ok`. */
+ * plans, the reach of task 1 and a plan's single-block time and timetable included, and to fill in as many records from its
+ * first part and laws; then about the first again, then about both at once, a thread to a file with buffers of its own:
+ * answers, plan bytes, work area, table and records filled in are always those of the first time. Prints what is wrong and
+ * ends with 1, or prints `threads: ok`. */
 #include <pthread.h>
 #include <stdatomic.h>
 #include <string.h>
@@ -16,9 +16,10 @@
 /* All that the services give for a file. */
 struct given {
     struct zombreki_answer greedy, best, judge;
-    struct zombreki_filled filled, reached, timed;
+    struct zombreki_filled filled, reached, timed, tabled;
     uint8_t greedy_plan[ZOMBREKI_PLAN_BYTES], best_plan[ZOMBREKI_PLAN_BYTES], out[LARGEST];
     uint32_t work[ZOMBREKI_WORK_WORDS];
+    uint64_t table[ZOMBREKI_MOST_BLOCKS];
 };
 
 static struct asked {
@@ -30,7 +31,7 @@ static struct asked {
 
 static atomic_int unfinished = 2;
 
-/* The plan that is judged and timed is the greedy one, whose first module is task 1. */
+/* The plan that is judged, timed and tabled is the greedy one, whose first module is task 1; it has no copies. */
 static void ask(struct asked *file)
 {
     const struct costs *costs = &file->costs;
@@ -43,6 +44,8 @@ static void ask(struct asked *file)
     now->filled = zombreki_fill_costs(costs->bytes, first_part(costs), file->laws.bytes, file->laws.length, now->out, LARGEST);
     now->reached = zombreki_reach(costs->bytes, costs->length, 1);
     now->timed = zombreki_block_time(costs->bytes, costs->length, now->greedy_plan, ZOMBREKI_PLAN_BYTES);
+    now->tabled = zombreki_timetable(costs->bytes, costs->length, now->greedy_plan, ZOMBREKI_PLAN_BYTES, ZOMBREKI_MOST_BLOCKS,
+                                     now->table, ZOMBREKI_MOST_BLOCKS);
     file->differs |= memcmp(&file->first, now, sizeof *now) != 0;
 }
 
@@ -71,10 +74,11 @@ int main(int argc, char **argv)
             return ended("usage: threads FILE FILE, files of cost records", 1);
         make_laws(&files[i].costs, &files[i].laws);
         ask(&files[i]);
-        files[i].first = files[i].now;
+        memcpy(&files[i].first, &files[i].now, sizeof files[i].now);
         files[i].differs = 0;
         if (files[i].first.greedy.refusal || files[i].first.best.refusal || files[i].first.judge.refusal ||
-            files[i].first.filled.refusal || files[i].first.reached.refusal || files[i].first.timed.refusal)
+            files[i].first.filled.refusal || files[i].first.reached.refusal || files[i].first.timed.refusal ||
+            files[i].first.tabled.refusal)
             return ended("a service refused a file", 1);
     }
     ask(&files[0]);

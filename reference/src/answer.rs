@@ -1,5 +1,5 @@
-//! What a service answers: the figures of a plan, the bytes that it filled in or the number asked for, or a refusal's number and
-//! place.
+//! What a service answers: the figures of a plan, the bytes or entries that it filled in or the number asked for, or a refusal's
+//! number and place.
 
 /// The answer of the C interface for a plan: seven numbers. A refusal has zero figures, figures have refusal 0 and place 0.
 #[repr(C)]
@@ -14,8 +14,8 @@ pub struct Answer {
     pub copies: u32,
 }
 
-/// The answer of a service that neither judges nor plans: how many bytes it filled in, or the number asked for. A refusal has
-/// count 0.
+/// The answer of a service that neither judges nor plans: how many bytes or entries it filled in, or the number asked for. A
+/// refusal has count 0.
 #[repr(C)]
 #[derive(Clone, Copy, Debug, Default, PartialEq, Eq)]
 pub struct Filled {
@@ -25,7 +25,7 @@ pub struct Filled {
 }
 
 impl Filled {
-    /// No refusal, but so many bytes, or this number.
+    /// No refusal, but so many bytes or entries, or this number.
     pub fn counted(count: u32) -> Filled {
         Filled {
             refusal: 0,

@@ -2,6 +2,7 @@
 
 pub mod laws;
 mod memory;
+pub mod streams;
 mod times;
 
 use crate::costs::{self, Chain, MOST_CORES};

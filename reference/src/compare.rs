@@ -15,9 +15,11 @@ use crate::services::{Planner, Services};
 pub struct Both<'a> {
     expected: Box<dyn Planner + 'a>,
     found: Box<dyn Planner + 'a>,
-    costs: &'a [u8],
+    pub costs: &'a [u8],
     /// The costs as they were before any call.
     before: Vec<u8>,
+    /// A seed of the costs' own.
+    seed: u64,
 }
 
 impl<'a> Both<'a> {
@@ -33,8 +35,23 @@ impl<'a> Both<'a> {
             found: Box::new(found.on(costs)),
             costs,
             before: costs.to_vec(),
+            seed: seed_of(0, costs),
         }
     }
+
+    /// A seed of the costs' and this plan's own.
+    pub fn seed_of_plan(&self, plan: &[u8]) -> u64 {
+        seed_of(self.seed, plan)
+    }
+}
+
+/// From one seed and some bytes, another one.
+fn seed_of(seed: u64, bytes: &[u8]) -> u64 {
+    bytes.chunks(8).fold(seed, |seed, chunk| {
+        let mut word = [0; 8];
+        word[..chunk.len()].copy_from_slice(chunk);
+        Random::new(seed ^ u64::from_le_bytes(word)).word()
+    })
 }
 
 /// In which service the two differ, and how.
@@ -57,6 +74,7 @@ const MARGIN: usize = 16;
 const PLAN_NAME: &str = "plan bytes (those lent begin at 16)";
 const OUT_NAME: &str = "output (the lent bytes begin at 16)";
 const WORK_NAME: &str = "work area (the lent words begin at 16)";
+const TABLE_NAME: &str = "table (the lent entries begin at 16)";
 
 impl Lent {
     /// As much as is needed.
@@ -83,7 +101,23 @@ impl Lent {
     }
 
     fn work_in<'a>(&self, words: &'a mut [u32]) -> &'a mut [u32] {
-        &mut words[MARGIN..MARGIN + self.work]
+        lent_in(self.work, words)
+    }
+}
+
+/// Of how many blocks a timetable is asked for, in so many entries, and the seed of what these hold before.
+#[derive(Clone, Copy, Debug)]
+pub struct Asked {
+    pub blocks: u32,
+    pub entries: usize,
+    pub seed: u64,
+}
+
+impl Asked {
+    /// The entries and the margins around them: numbers that rise from one to the next.
+    fn dirty_table(&self) -> Vec<u64> {
+        let length = (self.entries + 2 * MARGIN) as u64;
+        (0..length).map(|i| self.seed.wrapping_add(i)).collect()
     }
 }
 
@@ -94,9 +128,9 @@ fn dirty_bytes(length: usize, seed: u64) -> Vec<u8> {
     (0..length).map(|_| random.byte()).collect()
 }
 
-/// The bytes between the margins.
-fn lent_in(length: usize, bytes: &mut [u8]) -> &mut [u8] {
-    &mut bytes[MARGIN..MARGIN + length]
+/// What is between the margins.
+fn lent_in<T>(length: usize, longer: &mut [T]) -> &mut [T] {
+    &mut longer[MARGIN..MARGIN + length]
 }
 
 /// The first place where the two differ, with what `name` says of it.
@@ -106,9 +140,11 @@ fn expect_same<T: PartialEq + Debug>(
     found: &[T],
     name: impl Fn() -> String,
 ) -> Result<(), Difference> {
-    let Some(i) = (0..expected.len()).find(|&i| expected[i] != found[i]) else {
+    if expected == found {
         return Ok(());
-    };
+    }
+    let differs = (0..expected.len()).find(|&i| expected[i] != found[i]);
+    let i = differs.expect("both are as long");
     let (expected, found) = (&expected[i], &found[i]);
     let what = format!("{}, at {i}: expected {expected:?}, found {found:?}", name());
     Err(Difference { service, what })
@@ -224,6 +260,26 @@ pub fn block_time(both: &Both, plan: &[u8]) -> Result<Filled, Difference> {
     expect_same_parts(parts, timed, found, || name("answer"))?;
     expect_same("block time", plan, &found_plan, || name("bytes"))?;
     Ok(timed)
+}
+
+/// The timetable of whatever plan bytes, which stay as they are; the answer and the table of both. A difference names the first
+/// part of the answer in which it shows, or else the table.
+pub fn timetable(both: &Both, plan: &[u8], asked: Asked) -> Result<(Filled, Vec<u64>), Difference> {
+    let mut table = asked.dirty_table();
+    let mut found_table = table.clone();
+    let found_plan = plan.to_vec();
+    let fill = |planner: &dyn Planner, plan: &[u8], table: &mut [u64]| {
+        planner.timetable(plan, asked.blocks, lent_in(asked.entries, table))
+    };
+    let filled = fill(&*both.expected, plan, &mut table);
+    let found = fill(&*both.found, &found_plan, &mut found_table);
+    let parts = ["timetable: refusal", "timetable: place", "timetable: count"];
+    let name = |what: &str| format!("{what} on the plan {plan:?}, {asked:?}");
+    expect_same_parts(parts, filled, found, || name("answer"))?;
+    let tables = (&table, &found_table);
+    expect_same("timetable: table", tables.0, tables.1, || name(TABLE_NAME))?;
+    expect_same("timetable", plan, &found_plan, || name("bytes"))?;
+    Ok((filled, lent_in(asked.entries, &mut table).to_vec()))
 }
 
 /// No call has changed the costs.

@@ -69,7 +69,7 @@ fn covering_modules(chain: &Chain, plan: &[u8; PLAN_BYTES]) -> Result<Vec<Module
 }
 
 /// The refusal with the first module that fails the test as its place.
-fn test_all(
+pub fn test_all(
     modules: &[Module],
     number: u32,
     passes: impl Fn(&Module) -> bool,

@@ -41,6 +41,15 @@ unsafe extern "C" {
         plan: *const u8,
         plan_len: usize,
     ) -> Filled;
+    fn zombreki_timetable(
+        costs: *const u8,
+        costs_len: usize,
+        plan: *const u8,
+        plan_len: usize,
+        n: u32,
+        table: *mut u64,
+        table_len: usize,
+    ) -> Filled;
 }
 
 pub fn judge(costs: &[u8], plan: &[u8]) -> Answer {
@@ -99,6 +108,21 @@ pub fn block_time(costs: &[u8], plan: &[u8]) -> Filled {
     unsafe { zombreki_block_time(costs.as_ptr(), costs.len(), plan.as_ptr(), plan.len()) }
 }
 
+pub fn timetable(costs: &[u8], plan: &[u8], blocks: u32, table: &mut [u64]) -> Filled {
+    // SAFETY: pointers and lengths are those of live slices; the table is lent for writing, and none overlap.
+    unsafe {
+        zombreki_timetable(
+            costs.as_ptr(),
+            costs.len(),
+            plan.as_ptr(),
+            plan.len(),
+            blocks,
+            table.as_mut_ptr(),
+            table.len(),
+        )
+    }
+}
+
 #[cfg(test)]
 mod tests {
     use super::*;
@@ -106,6 +130,8 @@ mod tests {
     use crate::cases::constant;
     use crate::costs::{self, Chain};
     use crate::laws::Law;
+    use crate::plan::{self, PLAN_BYTES};
+    use crate::reach::of_one_core;
     use std::ptr::{null, null_mut};
 
     /// The pointer of an empty slice is not looked at.
@@ -129,24 +155,47 @@ mod tests {
                 zombreki_reach(null(), 0, 0),
                 zombreki_reach(null(), 0, 1),
                 zombreki_block_time(null(), 0, null(), 0),
+                zombreki_timetable(null(), 0, null(), 0, 0, null_mut(), 0),
+                zombreki_timetable(null(), 0, null(), 0, 1, null_mut(), 0),
             ]
         };
-        assert_eq!(filled, [Refusal::new(1).into(); 4]);
+        assert_eq!(filled, [Refusal::new(1).into(); 6]);
+        // SAFETY: the same, beside costs and a plan that are live.
+        let refused = unsafe {
+            let (costs, plan) = (ONE_TASK.as_flattened(), whole_plan());
+            let lent = (costs.as_ptr(), costs.len());
+            [
+                zombreki_timetable(lent.0, lent.1, null(), 0, 1, null_mut(), 0),
+                zombreki_timetable(lent.0, lent.1, plan.as_ptr(), plan.len(), 1, null_mut(), 0),
+            ]
+        };
+        assert_eq!(refused, [7, 21].map(|number| Refusal::new(number).into()));
+    }
+
+    /// One task on one core that takes 5.
+    const ONE_TASK: [[u8; 8]; 3] = [
+        [1, 0, 1, 1, 1, 0, 0, 0],
+        [2, 1, 1, 0, 0, 0, 0, 0],
+        [3, 1, 1, 0, 5, 0, 0, 0],
+    ];
+
+    /// Its plan of one copy.
+    fn whole_plan() -> [u8; PLAN_BYTES] {
+        plan::encode(&[of_one_core(1, 1)])
     }
 
     #[test]
     fn accepted_costs_with_empty_slices() {
-        let costs = [
-            [1, 0, 1, 1, 1, 0, 0, 0],
-            [2, 1, 1, 0, 0, 0, 0, 0],
-            [3, 1, 1, 0, 5, 0, 0, 0],
-        ];
-        let costs = costs.as_flattened();
+        let costs = ONE_TASK.as_flattened();
         assert_eq!(judge(costs, &[]).refusal, 7);
         assert_eq!(block_time(costs, &[]), Refusal::new(7).into());
+        assert_eq!(timetable(costs, &[], 0, &mut []), Refusal::new(7).into());
+        assert_eq!(timetable(costs, &[], 1, &mut [9]), Refusal::new(7).into());
         assert_eq!(greedy_plan(costs, 0, &mut []).refusal, 7);
         assert_eq!(best_plan(costs, &mut [], &mut []).refusal, 7);
         assert_eq!(best_plan(costs, &mut [0; 48], &mut []).refusal, 8);
+        let table_of = |blocks| timetable(costs, &whole_plan(), blocks, &mut []);
+        assert_eq!([0, 1, 1_000].map(table_of), [Refusal::new(21).into(); 3]);
         let (head, law) = (&costs[..16], Law::Constant(5).encode(3, 1));
         assert_eq!(fill_costs(head, &[], &mut []).refusal, 17);
         assert_eq!(fill_costs(head, &law, &mut []).refusal, 19);

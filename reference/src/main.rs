@@ -1,6 +1,6 @@
 //! The benchmark: `cargo run --release`. Times Best plan of the static library beside the same search in Rust, the dynamic
-//! program of source document 000 and, where the file is small, trying all plans; and filling in costs from laws beside the
-//! same in Rust.
+//! program of source document 000 and, where the file is small, trying all plans; and filling in costs from laws, and a
+//! timetable, beside the same in Rust.
 
 use std::hint::black_box;
 use std::time::Instant;
@@ -10,8 +10,9 @@ use reference::cases::{self, Kind};
 use reference::costs::{self, Chain, MOST_CORES, MOST_TASKS, RECORD_BYTES};
 use reference::every::{self, WORK_WORDS};
 use reference::laws::{Law, Laws};
-use reference::plan::PLAN_BYTES;
-use reference::{filling, library, paper, threshold};
+use reference::plan::{self, Module, PLAN_BYTES};
+use reference::timetable::MOST_BLOCKS;
+use reference::{filling, library, paper, recurrence, threshold};
 
 const RUNS: usize = 11;
 
@@ -174,11 +175,54 @@ fn print_filling() {
             }
         })
     };
-    let times = medians(&mut [run(library::fill_costs), run(filling::fill_costs)]);
-    let [library, rust] = [0, 1].map(|i| times[i] / FILLINGS as f64);
-    let ratio = library / rust;
+    let runs = [run(library::fill_costs), run(filling::fill_costs)];
     println!("\nFilling in from laws with terms, 12 tasks, 32 cores:");
+    print_pair(runs, FILLINGS);
+}
+
+/// The time of the library and of the same in Rust, which a run does so often, and their ratio.
+fn print_pair(mut runs: [Box<dyn FnMut()>; 2], in_a_run: usize) {
+    let times = medians(&mut runs);
+    let [library, rust] = [0, 1].map(|i| times[i] / in_a_run as f64);
+    let ratio = library / rust;
     println!("library {library:.3}, the same in Rust {rust:.3}, ratio {ratio:.2}");
+}
+
+/// One way to fill in a timetable (document 02, M-105).
+type Table = fn(&[u8], &[u8], u32, &mut [u64]) -> Filled;
+
+/// A run fills in so many tables, since one takes a fraction of a millisecond.
+const TABLES: usize = 100;
+
+/// The timetable of the most blocks through a module of two cores for each task of the largest board, by the library and the same
+/// way in Rust; and of one block, which leaves reading the file and judging the plan.
+fn print_timetables() {
+    let costs = costs::write(&unlimited(Kind::Realistic, MOST_TASKS, MOST_CORES));
+    let module = |task| Module {
+        first: task,
+        last: task,
+        copies: 1,
+        cores: 2,
+    };
+    let modules: Vec<Module> = (1..=MOST_TASKS).map(module).collect();
+    let plan = plan::encode(&modules);
+    for blocks in [MOST_BLOCKS, 1] {
+        let run = |fill: Table| -> Box<dyn FnMut()> {
+            let costs = costs.clone();
+            let mut table = vec![0; blocks as usize];
+            Box::new(move || {
+                for _ in 0..TABLES {
+                    let filled = fill(black_box(&costs), black_box(&plan), blocks, &mut table);
+                    assert_eq!(black_box(filled).refusal, 0);
+                }
+            })
+        };
+        println!("\nTimetable, 12 modules, 32 cores, blocks: {blocks}:");
+        print_pair(
+            [run(library::timetable), run(recurrence::timetable)],
+            TABLES,
+        );
+    }
 }
 
 const NOTES: &str = "\
@@ -203,4 +247,5 @@ fn main() {
     print_rows(8, 16, &[LIBRARY, THRESHOLD, PAPER]);
     print_rows(5, 10, &[LIBRARY, THRESHOLD, PAPER, EVERY]);
     print_filling();
+    print_timetables();
 }

@@ -4,6 +4,7 @@ pub mod dynamic;
 pub mod laws;
 pub mod memory;
 pub mod reaches;
+pub mod tables;
 pub mod times;
 
 use crate::answer::Answer;
@@ -16,7 +17,8 @@ use crate::random::Random;
 use crate::tally::Tally;
 
 /// Best plan; Judge on its plan; the greedy plan with every grouping, and Judge on each; Judge on some random plans, and on some
-/// whose memory just suffices or does not; the single-block time of all that is judged; the reaches. The costs stay as they are.
+/// whose memory just suffices or does not; the single-block time and a timetable of all that is judged; the reaches. The costs
+/// stay as they are.
 pub fn all(both: &Both, case: &Case, tally: &mut Tally) -> Result<(), Difference> {
     let mut random = Random::new(!case.seed);
     let lent = Lent {
@@ -74,15 +76,16 @@ fn judge_filled(
         let service = "judge";
         return Err(Difference { service, what });
     }
-    times::of_judged(both, plan, judged, tally)?;
-    Ok(())
+    let time = times::of_judged(both, plan, judged, tally)?;
+    tables::of_judged(both, plan, (judged, time), tally)
 }
 
-/// Judge on any plan bytes, and their single-block time; the answer of Judge, and the time, 0 with a refusal.
+/// Judge on any plan bytes, their single-block time, and a timetable; the answer of Judge, and the time, 0 with a refusal.
 pub fn judged(both: &Both, plan: &[u8], tally: &mut Tally) -> Result<(Answer, u32), Difference> {
     let answer = compare::judge(both, plan)?;
     count("judge", answer, tally);
     let time = times::of_judged(both, plan, answer, tally)?;
+    tables::of_judged(both, plan, (answer, time), tally)?;
     Ok((answer, time))
 }
 

@@ -3,7 +3,7 @@
 use crate::answer::{Answer, Filled};
 use crate::costs::Chain;
 use crate::plan::PLAN_BYTES;
-use crate::{block_time, every, greedy, judge, laws, library, reach, threshold};
+use crate::{block_time, every, greedy, judge, laws, library, reach, threshold, timetable};
 
 /// A provider of document 01's three services, and of document 02's.
 #[derive(Clone, Copy)]
@@ -17,6 +17,8 @@ pub struct Services {
     pub reach: fn(&[u8], u8) -> Filled,
     /// Costs, plan bytes.
     pub block_time: fn(&[u8], &[u8]) -> Filled,
+    /// Costs, plan bytes, blocks, table.
+    pub timetable: fn(&[u8], &[u8], u32, &mut [u64]) -> Filled,
 }
 
 /// What the services are to answer; its Best plan tries all plans and is for small files.
@@ -27,11 +29,18 @@ pub const REFERENCE: Services = Services {
     fill_costs: laws::fill_costs,
     reach: reach::reach,
     block_time: block_time::block_time,
+    timetable: timetable::timetable,
 };
 
 /// The same for files of any size, with the threshold search.
 pub const QUICK_REFERENCE: Services = Services {
     best_plan: threshold::best_plan,
+    ..REFERENCE
+};
+
+/// The same for tables that end early: the clock of the machine leaves no tick out.
+pub const TICK_BY_TICK: Services = Services {
+    timetable: timetable::timetable_tick_by_tick,
     ..REFERENCE
 };
 
@@ -43,6 +52,7 @@ pub const LIBRARY: Services = Services {
     fill_costs: library::fill_costs,
     reach: library::reach,
     block_time: library::block_time,
+    timetable: library::timetable,
 };
 
 impl Services {
@@ -65,13 +75,15 @@ impl Services {
     }
 }
 
-/// The services on costs that are settled: document 01's three, the reach of a first task, and the single-block time of a plan.
+/// The services on costs that are settled: document 01's three, the reach of a first task, and the single-block time and the
+/// timetable of a plan.
 pub trait Planner {
     fn judge(&self, plan: &[u8]) -> Answer;
     fn greedy_plan(&self, grouping: u16, plan: &mut [u8]) -> Answer;
     fn best_plan(&self, plan: &mut [u8], work: &mut [u32]) -> Answer;
     fn reach(&self, first: u8) -> Filled;
     fn block_time(&self, plan: &[u8]) -> Filled;
+    fn timetable(&self, plan: &[u8], blocks: u32, table: &mut [u64]) -> Filled;
 }
 
 /// A provider and the bytes of cost records, accepted or not.
@@ -100,6 +112,10 @@ impl Planner for OnBytes<'_> {
     fn block_time(&self, plan: &[u8]) -> Filled {
         (self.services.block_time)(self.costs, plan)
     }
+
+    fn timetable(&self, plan: &[u8], blocks: u32, table: &mut [u64]) -> Filled {
+        (self.services.timetable)(self.costs, plan, blocks, table)
+    }
 }
 
 /// The second planner without bytes of costs. A chain that has laws is planned from these.
@@ -122,5 +138,9 @@ impl Planner for Chain {
 
     fn block_time(&self, plan: &[u8]) -> Filled {
         block_time::block_time_on(self, plan)
+    }
+
+    fn timetable(&self, plan: &[u8], blocks: u32, table: &mut [u64]) -> Filled {
+        timetable::timetable_on(self, plan, blocks, table)
     }
 }

@@ -4,7 +4,7 @@
 //! every response · 1024 at most n · copies is found by bisection, and all plans within that n have equal bottlenecks. A core
 //! weighs more than any single-block time, so of these the lightest plan has fewest cores, and least time among those.
 
-mod lookup;
+pub(crate) mod lookup;
 mod table;
 mod walk;
 
@@ -25,17 +25,16 @@ const UNIT: u32 = 1 << 25;
 
 /// Answers and leaves the lent bytes and words as `every::best_plan` does.
 pub fn best_plan(costs: &[u8], plan: &mut [u8], work: &mut [u32]) -> Answer {
-    let chain = match costs::read(costs) {
-        Ok(chain) => chain,
-        Err(refusal) => return refusal.into(),
-    };
+    if let Err(refusal) = costs::read(costs) {
+        return refusal.into();
+    }
     if let Err(refusal) = plan::enough_bytes(plan) {
         return refusal.into();
     }
     if work.len() < WORK_WORDS {
         return Refusal::new(8).into();
     }
-    let costs_at = Lookup::new(costs, &chain);
+    let costs_at = Lookup::with_reaches(costs);
     work.fill(0);
     let found = search(&costs_at, work);
     work.fill(0);

@@ -6,6 +6,8 @@ mod costs;
 mod due;
 mod fill;
 mod laws;
+#[cfg(test)]
+mod tables;
 mod words;
 
 use std::fs;

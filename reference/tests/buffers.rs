@@ -1,4 +1,5 @@
-//! What is lent: too little, enough, more; dirty; at any address; empty. Bytes and words beside it stay as they are.
+//! What is lent: too little, enough, more; dirty; at any address; empty. Bytes, words and entries beside it stay as
+//! they are.
 
 use reference::cases::laws::{self, LawCase, LawKind};
 use reference::cases::{self, Case, Kind};
@@ -73,16 +74,20 @@ fn every_length() {
     }
 }
 
-/// By Judge and for the single-block time.
+/// By Judge, for the single-block time and for a timetable.
 #[test]
 fn of_a_plan_48_bytes_are_read() {
     for case in files() {
         let mut plan = REFERENCE.best_filled(&case.costs).1.to_vec();
         let judge = |plan: &[u8]| (LIBRARY.judge)(&case.costs, plan);
         let block_time = |plan: &[u8]| (LIBRARY.block_time)(&case.costs, plan);
-        let whole = (judge(&plan), block_time(&plan));
+        let timetable = |plan: &[u8]| {
+            let mut table = [9; 5];
+            ((LIBRARY.timetable)(&case.costs, plan, 4, &mut table), table)
+        };
+        let whole = (judge(&plan), block_time(&plan), timetable(&plan));
         plan.resize(100, 255);
-        assert_eq!((judge(&plan), block_time(&plan)), whole);
+        assert_eq!((judge(&plan), block_time(&plan), timetable(&plan)), whole);
         let both = Both::on(&REFERENCE, &LIBRARY, &case.costs);
         for length in 0..=plan.len() {
             let result = round::judged(&both, &plan[..length], &mut Tally::default());
@@ -115,7 +120,7 @@ fn costs_at_every_address() {
             let both = Both::on(&REFERENCE, &LIBRARY, costs);
             let lent = Lent::enough(start as u64);
             let result = compare::best_plan(&both, lent).and_then(|(_, plan)| {
-                compare::block_time(&both, &plan)?;
+                round::judged(&both, &plan, &mut Tally::default())?;
                 compare::reach(&both, 1)?;
                 compare::reach(&both, 3)
             });

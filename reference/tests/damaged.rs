@@ -31,7 +31,7 @@ fn damaged_files() {
     for kind in DAMAGES {
         assert_eq!(tally.count(&format!("damage {kind:?}")), OF_EACH_DAMAGE);
     }
-    for service in ["best plan", "greedy plan", "judge"] {
+    for service in ["best plan", "greedy plan", "judge", "timetable"] {
         for refusal in 1..=6 {
             tally.assert_at_least(&format!("{service}: refusal {refusal}"), 500);
         }
@@ -150,23 +150,23 @@ fn best_bytes(case: &Case) -> Option<Vec<u8>> {
     (answer.refusal == 0).then_some(plan.to_vec())
 }
 
-/// Judge, and the single-block time, on the plan with each byte set to each value, the zero records behind the last module
-/// included.
+/// Judge, the single-block time and a timetable on the plan with each byte set to each value, the zero records behind the last
+/// module included.
 fn judge_all_changes(case: &Case, plan: &[u8], values: &[u8], tally: &mut Tally) {
+    let both = Both::on(&REFERENCE, &LIBRARY, &case.costs);
     let mut changed = plan.to_vec();
     for i in 0..PLAN_BYTES {
         for &value in values {
             changed[i] = value;
-            judged(case, &changed, tally);
+            judged(&both, case.seed, &changed, tally);
         }
         changed[i] = plan[i];
     }
 }
 
-fn judged(case: &Case, plan: &[u8], tally: &mut Tally) {
-    let both = Both::on(&REFERENCE, &LIBRARY, &case.costs);
-    if let Err(difference) = round::judged(&both, plan, tally) {
-        compare::fail(case.seed, &case.costs, &difference);
+fn judged(both: &Both, seed: u64, plan: &[u8], tally: &mut Tally) {
+    if let Err(difference) = round::judged(both, plan, tally) {
+        compare::fail(seed, both.costs, &difference);
     }
 }
 
@@ -207,6 +207,7 @@ fn random_plans() {
         let case = cases::small(seed);
         let mut random = Random::new(seed);
         let best = best_bytes(&case).unwrap_or(vec![1; PLAN_BYTES]);
+        let both = Both::on(&REFERENCE, &LIBRARY, &case.costs);
         for _ in 0..60 {
             let any: Vec<u8> = (0..PLAN_BYTES).map(|_| random.byte()).collect();
             let small: Vec<u8> = any.iter().map(|byte| byte % 4).collect();
@@ -217,7 +218,7 @@ fn random_plans() {
             let mut behind = best.clone();
             behind.copy_within(0..4, 4 * random.below(RECORDS));
             for plan in [any, small, near, behind] {
-                judged(&case, &plan, &mut tally);
+                judged(&both, seed, &plan, &mut tally);
             }
         }
     }

@@ -9,8 +9,8 @@ use reference::round;
 use reference::services::{LIBRARY, QUICK_REFERENCE};
 use reference::tally::Tally;
 
-/// Best plan by both searches and both dynamic programs, the greedy plan with some groupings, Judge and the single-block time on
-/// these plans, and the reaches.
+/// Best plan by both searches and both dynamic programs, the greedy plan with some groupings, Judge, the single-block time and a
+/// timetable on these plans, and the reaches.
 fn check(case: &Case, tally: &mut Tally) -> Result<(), Difference> {
     let both = Both::on(&QUICK_REFERENCE, &LIBRARY, &case.costs);
     let lent = Lent::enough(case.seed);

@@ -62,7 +62,7 @@ fn filled_into(room: usize, case: &LawCase) -> Filled {
 }
 
 /// How often each thing is to be met where costs that were filled in are planned.
-const PLANNED: [(&str, usize); 18] = [
+const PLANNED: [(&str, usize); 20] = [
     ("best plan: refusal 9", 1_000),
     ("best plan: several modules", 3_500),
     ("best plan: more than two modules", 1_200),
@@ -84,6 +84,8 @@ const PLANNED: [(&str, usize); 18] = [
         50_000,
     ),
     ("reach: shorter than by needs added up", 500),
+    ("timetable: several modules", 28_000),
+    ("timetable: both wait", 5_400),
 ];
 
 #[test]

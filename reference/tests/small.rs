@@ -30,6 +30,28 @@ fn library_answers_as_the_reference() {
     assert_all_met(&tally);
     assert_reaches_met(&tally);
     assert_times_met(&tally);
+    assert_tables_met(&tally);
+}
+
+/// Which timetables are to be met, each at least so often, and the refusals that come after Judge's.
+fn assert_tables_met(tally: &Tally) {
+    for (what, least) in [
+        ("one module", 63_000),
+        ("several modules", 135_000),
+        ("more than two modules", 80_000),
+        ("a transfer waits for the receiver", 37_000),
+        ("a receiver waits for the sender", 41_000),
+        ("both wait", 22_000),
+        ("of the most blocks", 5_700),
+        ("refusal 20", 42_000),
+        ("refusal 20 behind others", 12_500),
+        ("refusal 21", 143_000),
+        ("refusal 21 of no block", 25_800),
+        ("refusal 21 of too many blocks, entries enough", 21_500),
+        ("refusal 21 of a table one short", 39_800),
+    ] {
+        tally.assert_at_least(&format!("timetable: {what}"), least);
+    }
 }
 
 /// Which single-block times are to be met, each at least so often; their refusals are Judge's.

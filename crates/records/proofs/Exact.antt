@@ -252,6 +252,13 @@ module _ (s : List ℕ) where
       framed-reads (record { number = 0; place = 0 }) (record { whole = costs-whole (c .long); headed = c .headed; ranged = c .ranged; long = c .long })
       (clean (λ i l u. let r = c .right i l (omega (arith, keys-count (b .tasks) (b .cores))) in deserved-only s i (dueAt b i) 0 (right (r .0) (r .1))))
 
+  -- the first record of accepted costs says their board
+  pub costs-board : (c : Board) → IsCosts s c → readBoard s ≡ accepted c
+  unfolding b
+  costs-board c h =
+      let g = rw (h .board) at h in
+      rw (h .board) (opens-only (accepted b) (board (costs-whole (g .long)) (g .headed) (g .ranged)))
+
   module _ (n : ℕ) (g : Framed s) (l : 1 ≤ n) (u : n < countOf (b .tasks) (b .cores)) (before : RightBelow s b n) where
     fault-reads : (number : ℕ) → faultAt s n (dueAt b n) ≡ suc number → readCosts s ≡ refused (suc number) (n + 1)
     unfolding keys b

@@ -54,3 +54,7 @@ accepted-costs s = exact.finds-costs s (readCosts s) (exact.reads s)
 
 pub accepted-ranges : (s : List ℕ) → readCosts s .number ≡ 0 → Ranged (readCosts s .board) × Long s (readCosts s .board)
 accepted-ranges s e = let c = accepted-costs s e in (c .ranged, c .long)
+
+-- and what the first record alone says is that board
+pub accepted-board : (s : List ℕ) → readCosts s .number ≡ 0 → readBoard s ≡ accepted (readCosts s .board)
+accepted-board s e = exact.costs-board s (readCosts s .board) (accepted-costs s e)

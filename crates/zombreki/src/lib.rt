@@ -1,5 +1,6 @@
 // The services for C and Rust callers, under plain names: Judge, Bench way and Best plan (document 01, "Three services"), filling in
-// costs from laws (document 02, M-101), a task's reach (M-102) and a plan's single-block time (M-104).
+// costs from laws (document 02, M-101), a task's reach (M-102), a plan's single-block time (M-104) and the timetable of a stream
+// (M-105).
 //
 // A slice crosses as a pointer and a count of elements. No function has a `requires`: each answers for every content and length.
 // include/zombreki.h declares them for C, and says what no proof covers.
@@ -11,6 +12,7 @@ ghost use Rattle.judge.specs.Timed.{blockTimeAnswer};
 ghost use Rattle.greedy.specs.Greedy.{greedyAnswer, greedyBytes};
 ghost use Rattle.planners.specs.Best.{bestAnswer, bestBytes, bestWork};
 ghost use Rattle.fitted.specs.Fill.{fillAnswer, fillBytes};
+ghost use Rattle.timetable.specs.Timetable.{timetableAnswer, timetableEntries};
 ghost use Rattle.zombreki.specs.Exported.{inWords, words};
 use records::Filled;
 
@@ -93,4 +95,13 @@ pub extern "C" fn zombreki_block_time(costs: &[u8], plan: &[u8]) -> Filled
     ensures { λ r. ⌜ r ≡ blockTimeAnswer (now (costs .entry)) (now (plan .entry)) ⌝ }
 {
     judge::block_time(costs, plan)
+}
+
+// Fills in when the last module of plan bytes is through with each of the blocks 1 to n.
+#[no_mangle]
+pub extern "C" fn zombreki_timetable(costs: &[u8], plan: &[u8], n: u32, table: &mut [u64]) -> Filled
+    ensures { λ r. ⌜ (r ≡ timetableAnswer (now (costs .entry)) (now (plan .entry)) n (now (table .entry)))
+        × (now (table .exit) ≡ timetableEntries (now (costs .entry)) (now (plan .entry)) n (now (table .entry))) ⌝ }
+{
+    timetable::timetable(costs, plan, n, table)
 }

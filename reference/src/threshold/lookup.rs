@@ -1,27 +1,33 @@
 //! Costs looked up in the bytes of an accepted file, and the sums over a module's tasks, added up anew at each call; and the
-//! reaches, worked out once.
+//! reaches, worked out once where they are asked for.
 
-use crate::costs::{Chain, MOST_TASKS, RECORD_BYTES};
+use crate::costs::{MOST_TASKS, RECORD_BYTES};
 
 pub struct Lookup<'a> {
     bytes: &'a [u8],
     pub tasks: usize,
     pub cores: usize,
     pub capacity: u64,
-    /// The reach of each first task (document 02, M-102): at t that of task t + 1.
+    /// The reach of each first task (document 02, M-102): at t that of task t + 1. All 0 where they are not asked for.
     reaches: [u8; MOST_TASKS],
 }
 
 /// Tasks and cores count from 1; 0 cores stand for no module.
 impl<'a> Lookup<'a> {
-    pub fn new(bytes: &'a [u8], chain: &Chain) -> Lookup<'a> {
+    pub fn new(bytes: &'a [u8]) -> Lookup<'a> {
         let mut costs = Lookup {
             bytes,
-            tasks: chain.tasks,
-            cores: chain.cores,
-            capacity: chain.capacity.into(),
+            tasks: bytes[3].into(),
+            cores: bytes[2].into(),
+            capacity: 0,
             reaches: [0; MOST_TASKS],
         };
+        costs.capacity = costs.value(0);
+        costs
+    }
+
+    pub fn with_reaches(bytes: &'a [u8]) -> Lookup<'a> {
+        let mut costs = Lookup::new(bytes);
         for t in 0..costs.tasks {
             costs.reaches[t] = costs.farthest(t + 1) as u8;
         }
@@ -104,7 +110,7 @@ impl<'a> Lookup<'a> {
         self.value(task).div_ceil(p as u64)
     }
 
-    fn memory_fits(&self, first: usize, last: usize, p: usize) -> bool {
+    pub fn memory_fits(&self, first: usize, last: usize, p: usize) -> bool {
         let mut sum = 0;
         for task in first..=last {
             sum += self.share(task, p);
@@ -152,7 +158,7 @@ mod tests {
         });
         for Case { seed, costs, .. } in small.chain(large) {
             let chain = costs::read(&costs).expect("an accepted file");
-            let twin = Lookup::new(&costs, &chain);
+            let twin = Lookup::with_reaches(&costs);
             for t in 0..chain.tasks {
                 let due = reach::reach_of(&chain, t + 1);
                 assert_eq!(twin.reach_after(t), due, "seed {seed}, task {}", t + 1);

@@ -2,12 +2,13 @@
 
 use std::str::FromStr;
 
-use super::due::Due;
+use super::due::{Due, counted};
 use super::words::{self, matched, number, split_if};
 use crate::every::WORK_WORDS;
 use crate::plan::PLAN_BYTES;
+use crate::timetable::MOST_BLOCKS;
 
-/// How many bytes or words are lent, and what each holds.
+/// How many bytes, words or entries are lent, and what each holds.
 #[derive(Clone, Copy, Debug)]
 pub struct Lent<T> {
     pub length: usize,
@@ -22,6 +23,10 @@ pub const PLAN: Lent<u8> = Lent {
 pub const WORK: Lent<u32> = Lent {
     length: WORK_WORDS,
     held: 7,
+};
+pub const TABLE: Lent<u64> = Lent {
+    length: 1,
+    held: 255,
 };
 
 #[derive(Debug)]
@@ -45,11 +50,16 @@ pub enum Call {
     BlockTime {
         plan: Vec<u8>,
     },
+    Timetable {
+        blocks: u32,
+        plan: Vec<u8>,
+        table: Lent<u64>,
+    },
 }
 
 impl Call {
     /// Whether such a call can be due that: Judge no plan, a planner a plan with its figures, only a reach a reach, only a block
-    /// time a time, and `read` none of these.
+    /// time a time, only a timetable a table of as many entries as blocks, and `read` none of these.
     pub fn suits(&self, due: &Due) -> bool {
         match due {
             Due::Accepted => matches!(self, Call::Read),
@@ -58,6 +68,12 @@ impl Call {
             Due::Plan(..) => matches!(self, Call::Greedy { .. } | Call::Best { .. }),
             Due::Reach(_) => matches!(self, Call::Reach { .. }),
             Due::Time(_) => matches!(self, Call::BlockTime { .. }),
+            Due::Table(ends) => match self {
+                Call::Timetable { blocks, table, .. } => {
+                    ends.len() == *blocks as usize && ends.len() <= table.length
+                }
+                _ => false,
+            },
         }
     }
 }
@@ -73,6 +89,9 @@ pub fn parse(text: &str) -> Result<Call, String> {
     if let Some(plan) = text.strip_prefix("block time of ") {
         let plan = judged_bytes(plan)?;
         return Ok(Call::BlockTime { plan });
+    }
+    if let Some(rest) = text.strip_prefix("timetable of ") {
+        return timetable(rest);
     }
     if let Some(rest) = text.strip_prefix("bench way ") {
         let (grouping, plan) = split_if(rest, " into ");
@@ -93,6 +112,24 @@ pub fn parse(text: &str) -> Result<Call, String> {
     Ok(Call::Best {
         plan: lent(plan, "# bytes", PLAN)?,
         work: lent(work, "# words", WORK)?,
+    })
+}
+
+/// `5 blocks by 1 1 1 2, 2 2 1 2`, then maybe `into 7 entries of 9`; else there are as many entries as blocks, or as the most
+/// blocks and one.
+fn timetable(text: &str) -> Result<Call, String> {
+    let (blocks, rest) = words::split(text, " by ")?;
+    let (plan, table) = split_if(rest, " into ");
+    let blocks = counted(blocks, "block", "blocks")?;
+    let pattern = match table {
+        Some(table) if table.starts_with("1 ") => "# entry",
+        _ => "# entries",
+    };
+    let length = blocks.min(MOST_BLOCKS + 1) as usize;
+    Ok(Call::Timetable {
+        blocks,
+        plan: judged_bytes(plan)?,
+        table: lent(table, pattern, Lent { length, ..TABLE })?,
     })
 }
 
@@ -119,7 +156,7 @@ fn judged_bytes(text: &str) -> Result<Vec<u8>, String> {
     Ok(plan)
 }
 
-/// `60 bytes of 9`, `16390 words`: what is not said is as in the other.
+/// `60 bytes of 9`, `16390 words`, `7 entries of 9`: what is not said is as in the other.
 pub fn lent<T: FromStr>(
     text: Option<&str>,
     pattern: &str,

@@ -2,7 +2,7 @@
 
 use std::fmt::Debug;
 
-use super::call::{Call, Lent, PLAN, WORK};
+use super::call::{Call, Lent, PLAN, TABLE, WORK};
 use super::due::Due;
 use super::fill;
 use super::laws::Lawful;
@@ -11,7 +11,7 @@ use crate::answer::{Answer, Filled};
 use crate::costs::Chain;
 use crate::plan::PLAN_BYTES;
 use crate::round::dynamic::expect_least;
-use crate::services::{LIBRARY, Planner, QUICK_REFERENCE, REFERENCE, Services};
+use crate::services::{LIBRARY, Planner, QUICK_REFERENCE, REFERENCE, Services, TICK_BY_TICK};
 use crate::{costs, laws};
 
 /// The work area of a service that is lent none.
@@ -28,8 +28,8 @@ struct Given {
 }
 
 /// The library and the second planner give what the text says: the planner that searches as the library does, and the one that
-/// tries all plans, or where there are too many for it the dynamic programs. Costs that are given as laws are also planned from
-/// these, without bytes, unless the call would try too many plans.
+/// tries all plans, or where there are too many for it the dynamic programs; a timetable that ends early also tick by tick. Costs
+/// that are given as laws are also planned from these, without bytes, unless the call would try too many plans.
 pub fn agree(case: &Planned) -> Result<(), String> {
     let chain = match &case.costs {
         Costs::Records(bytes) => costs::read(bytes),
@@ -46,6 +46,11 @@ pub fn agree(case: &Planned) -> Result<(), String> {
     if let (Ok(chain), false, Call::Best { .. }) = (&chain, few_plans, &case.call) {
         least(chain, &case.due)?;
     }
+    if let Due::Table(ends) = &case.due
+        && ends.iter().all(|&end| end <= FEW_TICKS)
+    {
+        held(&TICK_BY_TICK, case).map_err(|what| format!("tick by tick: {what}"))?;
+    }
     let tries_all = matches!(case.call, Call::Best { .. } | Call::Read);
     match chain {
         Ok(chain) if chain.laws.is_some() && (few_plans || !tries_all) => {
@@ -54,6 +59,9 @@ pub fn agree(case: &Planned) -> Result<(), String> {
         _ => Ok(()),
     }
 }
+
+/// As many as a machine can go through one by one.
+const FEW_TICKS: u64 = 100_000;
 
 /// Whether all plans can be tried.
 fn has_few_plans(chain: &Chain) -> bool {
@@ -105,7 +113,30 @@ fn served(planner: &dyn Planner, case: &Planned) -> Result<(), String> {
             let timed = planner.block_time(plan);
             same("answer", &[filled_due(&case.due)], &[timed])
         }
+        Call::Timetable {
+            blocks,
+            plan,
+            table,
+        } => tabled(planner, plan, *blocks, *table, &case.due),
     }
+}
+
+/// The answer is the due one, and the table holds the due ends, and behind them what it held.
+fn tabled(
+    planner: &dyn Planner,
+    plan: &[u8],
+    blocks: u32,
+    table: Lent<u64>,
+    due: &Due,
+) -> Result<(), String> {
+    let (mut entries, mut due_entries) = (lent(table), lent(table));
+    let lent_entries = &mut entries[MARGIN..MARGIN + table.length];
+    let filled = planner.timetable(plan, blocks, lent_entries);
+    if let Due::Table(ends) = due {
+        due_entries[MARGIN..MARGIN + ends.len()].copy_from_slice(ends);
+    }
+    same("answer", &[filled_due(due)], &[filled])?;
+    same("table, from 16 before", &due_entries, &entries)
 }
 
 /// All services refuse so, or none refuses the costs.
@@ -119,11 +150,13 @@ fn read(planner: &dyn Planner, case: &Planned) -> Result<(), String> {
     if let Due::Accepted = case.due {
         let refusals = answers.iter().map(|answer| answer.refusal);
         let is_accepted = |refusal| !(1..=6).contains(&refusal);
-        if refusals.chain([timed.refusal]).all(is_accepted) && reached.refusal == 0 {
+        let tabled = planner.timetable(&blank, 1, &mut [TABLE.held]);
+        let of_plan = [timed.refusal, tabled.refusal];
+        if refusals.chain(of_plan).all(is_accepted) && reached.refusal == 0 {
             return Ok(());
         }
         return Err(format!(
-            "accepted costs are due, not {answers:?}, {reached:?}, {timed:?}"
+            "accepted costs are due, not {answers:?}, {reached:?}, {timed:?}, {tabled:?}"
         ));
     }
     same(
@@ -136,6 +169,7 @@ fn read(planner: &dyn Planner, case: &Planned) -> Result<(), String> {
         &[filled_due(&case.due); 2],
         &[reached, timed],
     )?;
+    tabled(planner, &blank, 1, TABLE, &case.due)?;
     left(&case.due, PLAN, NO_WORK, &greedy)?;
     left(&case.due, PLAN, WORK, &best)
 }
@@ -169,7 +203,7 @@ pub fn lent<T: Copy>(lent: Lent<T>) -> Vec<T> {
 
 fn answer_due(due: &Due) -> Answer {
     match due {
-        Due::Accepted | Due::Reach(_) | Due::Time(_) => Answer::default(),
+        Due::Accepted | Due::Reach(_) | Due::Time(_) | Due::Table(_) => Answer::default(),
         Due::Refusal(refusal) => (*refusal).into(),
         Due::Figures(answer) | Due::Plan(_, answer) => *answer,
     }
@@ -178,6 +212,7 @@ fn answer_due(due: &Due) -> Answer {
 fn filled_due(due: &Due) -> Filled {
     match due {
         Due::Reach(count) | Due::Time(count) => Filled::counted(*count),
+        Due::Table(ends) => Filled::counted(ends.len() as u32),
         Due::Refusal(refusal) => (*refusal).into(),
         Due::Accepted | Due::Figures(_) | Due::Plan(..) => Filled::default(),
     }
@@ -192,7 +227,7 @@ fn left(due: &Due, plan: Lent<u8>, work: Lent<u32>, given: &Given) -> Result<(),
     let searched = match due {
         Due::Plan(..) => true,
         Due::Refusal(refusal) => refusal.number == 9,
-        Due::Accepted | Due::Figures(_) | Due::Reach(_) | Due::Time(_) => false,
+        Due::Accepted | Due::Figures(_) | Due::Reach(_) | Due::Time(_) | Due::Table(_) => false,
     };
     if searched {
         words[MARGIN..MARGIN + work.length].fill(0);

@@ -3,6 +3,7 @@
 use super::words::{self, matched, number, split_if};
 use crate::answer::{Answer, Refusal};
 use crate::plan::PLAN_BYTES;
+use crate::timetable::MOST_BLOCKS;
 
 #[derive(Debug)]
 pub enum Due {
@@ -16,6 +17,8 @@ pub enum Due {
     Reach(u32),
     /// The single-block time.
     Time(u32),
+    /// The ends of all blocks that are asked for.
+    Table(Vec<u64>),
 }
 
 pub fn parse(text: &str) -> Result<Due, String> {
@@ -30,6 +33,9 @@ pub fn parse(text: &str) -> Result<Due, String> {
     }
     if let Some([time]) = matched("time #", text) {
         return Ok(Due::Time(time));
+    }
+    if let Some(ends) = text.strip_prefix("table ") {
+        return Ok(Due::Table(table(ends)?));
     }
     let Some(rest) = text.strip_prefix("plan ") else {
         return Ok(Due::Figures(figures(text)?));
@@ -47,6 +53,26 @@ pub fn refusal(text: &str) -> Result<Refusal, String> {
     })
 }
 
+/// `19 31 43`, or with more behind these `19 31, then 12 apart, 1000 entries`.
+fn table(text: &str) -> Result<Vec<u64>, String> {
+    let (first, more) = split_if(text, ", then ");
+    let mut ends = first
+        .split(' ')
+        .map(number)
+        .collect::<Result<Vec<u64>, _>>()?;
+    if let Some(more) = more {
+        let (last, given) = (ends[ends.len() - 1], ends.len() as u32);
+        let further = match matched("# apart, # entries", more) {
+            Some([apart, entries]) if (given + 1..=MOST_BLOCKS).contains(&entries) => {
+                (1..=entries - given).map(move |n| last + u64::from(n) * u64::from(apart))
+            }
+            _ => return Err(format!("`{more}` are no further entries")),
+        };
+        ends.extend(further);
+    }
+    Ok(ends)
+}
+
 fn figures(text: &str) -> Result<Answer, String> {
     let parts: Vec<&str> = text.split(", ").collect();
     let [modules, cores, slowest, response, copies] = parts[..] else {
@@ -55,8 +81,8 @@ fn figures(text: &str) -> Result<Answer, String> {
     Ok(Answer {
         refusal: 0,
         place: 0,
-        modules: counted(modules, "module")?,
-        cores: counted(cores, "core")?,
+        modules: counted(modules, "module", "modules")?,
+        cores: counted(cores, "core", "cores")?,
         slowest: named(slowest, "slowest #")?,
         response: named(response, "response #")?,
         copies: named(copies, "r #")?,
@@ -64,12 +90,11 @@ fn figures(text: &str) -> Result<Answer, String> {
 }
 
 /// `1 module`, `2 modules`.
-fn counted(text: &str, what: &str) -> Result<u32, String> {
+pub fn counted(text: &str, one: &str, several: &str) -> Result<u32, String> {
     let (count, word) = words::split(text, " ")?;
     let count = number(count)?;
-    let plural = if count == 1 { "" } else { "s" };
-    if word.strip_prefix(what) != Some(plural) {
-        return Err(format!("`{text}` is no count of {what}s"));
+    if word != if count == 1 { one } else { several } {
+        return Err(format!("`{text}` is no count of {several}"));
     }
     Ok(count)
 }

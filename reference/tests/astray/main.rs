@@ -4,10 +4,11 @@
 mod mistakes;
 mod reaches;
 mod times;
+mod timetables;
 
 use mistakes::laws::{bounds, values};
 use mistakes::limits::walks;
-use mistakes::{laws, searches};
+use mistakes::{Mistake, laws, searches};
 use reference::cases::laws::{self as law_cases, LawCase};
 use reference::cases::{self, Kind};
 use reference::compare::{self, Both, Difference, Lent};
@@ -100,8 +101,17 @@ fn some_line_tells_every_mistake() {
     let mut lines = written::lines();
     lines.retain(|line| small(line) && keeps_to(line, &REFERENCE));
     let programs = laws::mistakes().chain(mistakes::reaches::mistakes());
+    let mut untold = untold_by(&lines, mistakes::planners().chain(programs));
+    // those of timetables by their own lines only
+    lines.retain(|line| line.text.contains("timetable of "));
+    untold.extend(untold_by(&lines, mistakes::timetables::mistakes()));
+    assert!(untold.is_empty(), "no line tells:\n{}", untold.join("\n"));
+}
+
+/// The mistakes that none of the lines tells.
+fn untold_by(lines: &[Line], mistakes: impl Iterator<Item = Mistake>) -> Vec<String> {
     let mut untold = Vec::new();
-    for mistake in mistakes::planners().chain(programs) {
+    for mistake in mistakes {
         let name = format!("{}: {}", mistake.shows_in, mistake.what);
         let tells = |line: &&Line| !keeps_to(line, &mistake.services);
         match lines.iter().find(tells) {
@@ -109,7 +119,7 @@ fn some_line_tells_every_mistake() {
             None => untold.push(name),
         }
     }
-    assert!(untold.is_empty(), "no line tells:\n{}", untold.join("\n"));
+    untold
 }
 
 fn expect_no_difference_of_laws(found: &Services) {

@@ -1,6 +1,6 @@
 //! The wrong planners: document 01's "Where a plan goes astray", then "Before anyone tests", then mistakes in what is lent, then
-//! those about core limits, about memory and about single-block times; and wrong programs that fill in costs from laws, or that
-//! find reaches.
+//! those about core limits, about memory and about single-block times; and wrong programs that fill in costs from laws, that find
+//! reaches, or that fill in timetables.
 
 mod judges;
 pub mod laws;
@@ -10,6 +10,7 @@ pub mod reaches;
 mod ruled;
 pub mod searches;
 pub mod times;
+pub mod timetables;
 
 use reference::answer::{Answer, Refusal};
 use reference::compare::Difference;

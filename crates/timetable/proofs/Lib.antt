@@ -1,0 +1,11 @@
+pub mod Bounds
+pub mod Greater
+pub mod Loading
+pub mod Only
+pub mod Rows
+pub mod Scheduled
+pub mod Serving
+pub mod Streamed
+pub mod Tabled
+pub mod Theorems
+pub mod Turns

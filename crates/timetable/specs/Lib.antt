@@ -1,0 +1,5 @@
+pub mod Claims
+pub mod Loops
+pub mod Machine
+pub mod Stages
+pub mod Timetable
