@@ -94,8 +94,8 @@ struct zombreki_filled zombreki_block_time(const uint8_t *costs, size_t costs_le
  * at which the last module is through with block i + 1, for blocks 1 to n. A module receives a block, executes it, sends it, and then
  * turns to the next one. A transfer occupies sender and receiver from start to end, and starts as soon as the sender has executed the
  * block and the receiver is through with the one before, its sending included. The first module starts block 1 at tick 0, and each later
- * block when it has sent the one before; the last module is through when it has executed. So, with the response B that zombreki_judge
- * answers and the single-block time L, block b ends at (b - 1) * B + L; no entry is above 23,000,000,000.
+ * block when it is through with the one before; the last module is through with a block when it has executed it. So, with the response
+ * B that zombreki_judge answers and the single-block time L, block b ends at (b - 1) * B + L; no entry is above 23,000,000,000.
  * `table` takes n entries; entries after these are never written, and a refusal leaves the table as it came. Bytes of the plan after
  * the 48th are never read. Refusals, in this order: those of zombreki_judge, with its places; 20 (a plan with copies; the place is the
  * first module that has some); 21 (n is not 1 to ZOMBREKI_MOST_BLOCKS, or the table has fewer than n entries). */
