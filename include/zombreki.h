@@ -9,7 +9,7 @@
  *  - an empty slice has count 0; its pointer is not looked at and may be any.
  *
  * What a target without an operating system has to offer, measured on x86-64:
- *  - some 25 KB for code; the library has no data and no bss;
+ *  - some 26 KB for code; the library has no data and no bss;
  *  - `memset`, the only symbol that it needs from outside;
  *  - beside what is lent, stack for a call: some 700 bytes to judge, 800 for a single-block time, 1,100 for a timetable, 1,500 for the
  *    greedy plan, 1,400 for the best, 300 to fill in costs or for a reach;
@@ -32,6 +32,10 @@ extern "C" {
 #define ZOMBREKI_WORK_WORDS 16384
 #define ZOMBREKI_MOST_BLOCKS 1000
 
+/* A module's response, in ticks: to receive a block from the module before, to execute its tasks with the transfers between them, and to send it
+ * to the module after (a transfer between two modules counts in both); and D more if the module has more than one copy. D, 0 to 255, is
+ * the task byte of the first cost record: what it takes to hand a block out to one of them. */
+
 /* The number of a refusal (0 for none) and its place, or the figures of a plan. A refusal has zero figures. The costs are
  * refused with 1 to 6, the call with 7, 8 and 10, a judged plan with 12 to 16 (14: the shares of a module's tasks, each need /
  * cores of a copy rounded up, add to more than the capacity of a core; 16, before 15: a copy of a module has more cores than
@@ -42,7 +46,7 @@ struct zombreki_answer {
     uint32_t modules;  /* how many modules the plan has */
     uint32_t cores;    /* the cores that it uses */
     uint32_t slowest;  /* the first module that reaches the bottleneck, counted from 1 */
-    uint32_t response; /* its response in ticks */
+    uint32_t response; /* its response in ticks, at most 23,000,255 */
     uint32_t copies;   /* its copies: the bottleneck is response / copies */
 };
 
@@ -82,11 +86,12 @@ struct zombreki_filled zombreki_fill_costs(const uint8_t *head, size_t head_len,
 
 /* The reach of a task: the last task of the longest module that starts with `first` and whose memory some count of the board's cores, all
  * in one copy, can hold; 0 if there is none, and 0 if `first` is no task of the chain. Exactly the modules that end within the reach of
- * their first task can be held so. Core limits and copies don't enter it. Refusals: 1 to 6, on the costs. */
+ * their first task can be held so. Core limits, copies and D don't enter it. Refusals: 1 to 6, on the costs. */
 struct zombreki_filled zombreki_reach(const uint8_t *costs, size_t costs_len, uint8_t first);
 
 /* The single-block time of a plan, in ticks: each task's execution and each transfer, within a module or between two, once, at the cores
- * of one copy of the module, or of each of the two. Copies don't enter it. At most 23,000,000. Bytes after the 48th are never read.
+ * of one copy of the module, or of each of the two; and D for each module with more than one copy. At most 23,003,060. Bytes after the
+ * 48th are never read.
  * Refusals, as zombreki_judge gives them and with its places: 1 to 6 on the costs, 7 and 12 to 16 on the plan bytes. */
 struct zombreki_filled zombreki_block_time(const uint8_t *costs, size_t costs_len, const uint8_t *plan, size_t plan_len);
 

@@ -405,6 +405,56 @@ static void fills_long_tables(const uint8_t *costs, size_t length)
     expect("table, the most blocks: entries", even && table[most] == UINT64_MAX);
 }
 
+/* Document 02, M-106: byte 1 of the file is D, what handing out to copies costs. Both tasks on two copies of two cores take 18 + D, so at
+ * D = 3 the bottleneck is 21 / 2, at 4 it is 22 / 2; one copy of four cores takes 11, for a block too. */
+static void hands_out(const uint8_t *costs, size_t length)
+{
+    static uint32_t work[ZOMBREKI_WORK_WORDS];
+    const struct {
+        uint8_t d, copies, cores;
+        uint32_t response;
+    } best[] = {{0, 2, 2, 18}, {1, 2, 2, 19}, {3, 2, 2, 21}, {4, 1, 4, 11}, {10, 1, 4, 11}, {255, 1, 4, 11}};
+    uint8_t changed[248], plan[52];
+    uint64_t table[1];
+    memcpy(changed, costs, sizeof changed);
+    for (size_t i = 0; i < sizeof best / sizeof *best; i++) {
+        changed[1] = best[i].d;
+        memset(plan, 255, sizeof plan);
+        expect("best, D", answers(zombreki_best_plan(changed, length, plan, sizeof plan, work, ZOMBREKI_WORK_WORDS),
+                                  (uint32_t[]){0, 0, 1, 4, 1, best[i].response, best[i].copies}));
+        expect("best, D: plan", holds(plan, (uint8_t[]){1, 2, best[i].copies, best[i].cores}, 4));
+    }
+    changed[1] = 10;
+    memset(plan, 0, sizeof plan);
+    memcpy(plan, (uint8_t[]){1, 2, 2, 2}, 4);
+    expect("judge, 28 / 2", answers(zombreki_judge(changed, length, plan, 48), (uint32_t[]){0, 0, 1, 4, 1, 28, 2}));
+    expect("time, 18 + 10", fills(zombreki_block_time(changed, length, plan, 48), 0, 0, 28));
+    memcpy(plan, (uint8_t[]){1, 1, 2, 1, 2, 2, 1, 2}, 8);
+    expect("judge, 24 / 2", answers(zombreki_judge(changed, length, plan, 48), (uint32_t[]){0, 0, 2, 4, 1, 24, 2}));
+    expect("time, 24 + 10", fills(zombreki_block_time(changed, length, plan, 48), 0, 0, 34));
+    expect("reach, D", fills(zombreki_reach(changed, length, 1), 0, 0, 2));
+    expect("table, D and copies", fills(zombreki_timetable(changed, length, plan, 48, 1, NULL, 0), 20, 1, 0));
+    expect("greedy, D", answers(zombreki_greedy_plan(changed, length, 1, plan, 48), (uint32_t[]){0, 0, 2, 4, 2, 12, 1}));
+    expect("table, D", fills(zombreki_timetable(changed, length, plan, 48, 1, table, 1), 0, 0, 1) && table[0] == 19);
+    changed[0] = 2;
+    expect("judge, D and another kind", answers(zombreki_judge(changed, length, plan, 48), (uint32_t[]){2, 0, 0, 0, 0, 0, 0}));
+}
+
+/* The first part's D goes with it: filled in, one copy of four cores takes 4 + 1 + 5, two copies of two 28 / 2. */
+static void fills_hand_out(const uint8_t *costs)
+{
+    static uint32_t work[ZOMBREKI_WORK_WORDS];
+    uint8_t head[24], out[248], plan[52];
+    memcpy(head, costs, sizeof head);
+    head[1] = 10;
+    expect("fill, D", fills(zombreki_fill_costs(head, 24, dock_laws[0], 96, out, sizeof out), 0, 0, 248));
+    expect("fill, D: first part", memcmp(out, head, sizeof head) == 0);
+    memset(plan, 255, sizeof plan);
+    expect("best, D filled in", answers(zombreki_best_plan(out, 248, plan, sizeof plan, work, ZOMBREKI_WORK_WORDS),
+                                        (uint32_t[]){0, 0, 1, 4, 1, 10, 1}));
+    expect("best, D filled in: plan", holds(plan, (uint8_t[]){1, 2, 1, 4}, 4));
+}
+
 int main(int argc, char **argv)
 {
     uint8_t costs[249];
@@ -431,6 +481,8 @@ int main(int argc, char **argv)
     fills_tables(costs, length);
     refuses_tables(costs, length);
     fills_long_tables(costs, length);
+    hands_out(costs, length);
+    fills_hand_out(costs);
     if (failures)
         return 1;
     puts("calls: ok");

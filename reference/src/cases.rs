@@ -1,5 +1,6 @@
 //! Cost files from seeds, in kinds that each press on one part of the model.
 
+mod copies;
 pub mod laws;
 mod memory;
 pub mod streams;
@@ -43,9 +44,12 @@ pub enum Kind {
     /// beside two that have copies or cores. In most files several plans have equal bottlenecks and cores, and their single-block
     /// times differ.
     BlockTimes,
+    /// To hand out to copies costs about as much as they save: D is near the times, and decides whether there are copies, how many,
+    /// or between plans of equal bottlenecks and cores.
+    Dispatch,
 }
 
-pub const KINDS: [Kind; 14] = [
+pub const KINDS: [Kind; 15] = [
     Kind::Random,
     Kind::Ties,
     Kind::Zeros,
@@ -60,6 +64,7 @@ pub const KINDS: [Kind; 14] = [
     Kind::Reaches,
     Kind::Shares,
     Kind::BlockTimes,
+    Kind::Dispatch,
 ];
 
 /// A file with what it was made from.
@@ -76,13 +81,17 @@ impl Case {
     }
 }
 
-/// A file small enough for trying all plans; the seed fixes it, and each fourteen seeds in turn cover all kinds.
+/// A file small enough for trying all plans; the seed fixes it, and each fifteen seeds in turn cover all kinds.
 pub fn small(seed: u64) -> Case {
     let mut random = Random::new(seed);
     let kind = KINDS[(seed % KINDS.len() as u64) as usize];
-    // fewer tasks can hardly be split in several ways that are equally good
-    let least = if kind == Kind::BlockTimes { 3 } else { 1 };
-    let (tasks, cores) = small_size(least, &mut random);
+    // fewer tasks can hardly be split in several ways that are equally good, nor fewer cores give several tasks copies
+    let (least_tasks, least_cores) = match kind {
+        Kind::BlockTimes => (3, 3),
+        Kind::Dispatch => (3, 5),
+        _ => (1, 1),
+    };
+    let (tasks, cores) = small_size(least_tasks, least_cores, &mut random);
     let costs = costs::write(&chain(kind, tasks, cores, &mut random));
     Case { seed, kind, costs }
 }
@@ -100,13 +109,13 @@ pub fn sized(kind: Kind, tasks: usize, cores: usize, seed: u64) -> Case {
 }
 
 /// Mostly a few tasks and cores, so many at least; now and then the most tasks or the most cores that trying all plans can bear.
-fn small_size(least: usize, random: &mut Random) -> (usize, usize) {
+fn small_size(least_tasks: usize, least_cores: usize, random: &mut Random) -> (usize, usize) {
     if random.once_in(100) {
         return random.pick(&[(12, 6), (9, 7), (7, 8), (5, 10), (3, 16), (2, 32), (1, 32)]);
     }
-    let tasks = random.within(least, 5);
+    let tasks = random.within(least_tasks, 5);
     let most_cores = [24, 16, 10, 8, 7][tasks - 1];
-    (tasks, random.within(least, most_cores))
+    (tasks, random.within(least_cores, most_cores))
 }
 
 fn chain(kind: Kind, tasks: usize, cores: usize, random: &mut Random) -> Chain {
@@ -118,12 +127,22 @@ fn chain(kind: Kind, tasks: usize, cores: usize, random: &mut Random) -> Chain {
         Kind::Hidden => times::set_hidden(&mut chain, random),
         Kind::Shares => times::set_even(&mut chain, random),
         Kind::BlockTimes => times::set_equal(&mut chain, random),
+        Kind::Dispatch => copies::set(&mut chain, random),
         _ => times::set_drawn(&mut chain, kind, random),
     }
     memory::set(&mut chain, kind, random);
     set_flags(&mut chain, kind, random);
     set_limits(&mut chain, kind, random);
+    if kind != Kind::Dispatch {
+        chain.dispatch = some_dispatch(random);
+    }
     chain
+}
+
+/// Half of the time 0; else little, much, as much as can be, or any.
+fn some_dispatch(random: &mut Random) -> u8 {
+    let any = random.byte();
+    random.pick(&[0, 0, 0, 0, 1, 10, 255, any])
 }
 
 /// Half of the tasks are replicable where cores are to count more than copies; else most of them or all that have not been marked
@@ -189,6 +208,7 @@ pub fn worked_example() -> Chain {
         tasks: 2,
         cores: 4,
         capacity: 100,
+        dispatch: 0,
         needs: vec![50, 150],
         flags: vec![true, true],
         limits: vec![None, None],
@@ -199,13 +219,14 @@ pub fn worked_example() -> Chain {
     }
 }
 
-/// A chain whose times are all the same, without memory needs and limits.
+/// A chain whose times are all the same, without memory needs and limits; copies are handed out to at once.
 pub fn constant(tasks: usize, cores: usize, time: u32) -> Chain {
     let pairs = tasks - 1;
     Chain {
         tasks,
         cores,
         capacity: 1,
+        dispatch: 0,
         needs: vec![0; tasks],
         flags: vec![true; tasks],
         limits: vec![None; tasks],

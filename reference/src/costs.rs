@@ -1,5 +1,5 @@
-//! Document 01, "Cost records", with the core limits of document 02, M-100: the reader with refusals 1 to 6, the writer, and
-//! the costs of an accepted file.
+//! Document 01, "Cost records", with the core limits of document 02, M-100, and the cost of handing out to copies, M-106: the
+//! reader with refusals 1 to 6, the writer, and the costs of an accepted file.
 
 use crate::answer::Refusal;
 use crate::laws::Laws;
@@ -9,6 +9,8 @@ pub const MOST_CORES: usize = 32;
 /// The greatest capacity, memory need, execution or transfer.
 pub const MOST_VALUE: u32 = 1_000_000;
 pub const RECORD_BYTES: usize = 8;
+/// The byte of a file that holds D (document 02, M-106): the task of the first record.
+pub const DISPATCH: usize = 1;
 /// The bytes of an accepted file of the most tasks and cores.
 pub const LARGEST: usize = 96_104;
 
@@ -19,6 +21,8 @@ pub struct Chain {
     pub tasks: usize,
     pub cores: usize,
     pub capacity: u32,
+    /// M-106's D: the ticks that it takes to pick a copy, where there are several.
+    pub dispatch: u8,
     pub needs: Vec<u32>,
     pub flags: Vec<bool>,
     /// The most cores that a copy may have, where a task has such a limit.
@@ -178,7 +182,8 @@ fn read_by(bytes: &[u8], due_keys: impl Fn(u8, u8) -> Vec<Key>) -> Result<Chain,
         return Err(Refusal::new(1));
     }
     let head = Record::decode(&bytes[..RECORD_BYTES]);
-    if head.kind != 1 || head.task != 0 {
+    // M-106: the task byte is D, whatever it is
+    if head.kind != 1 {
         return Err(Refusal::new(2));
     }
     let (tasks, cores) = (usize::from(head.b), usize::from(head.a));
@@ -215,6 +220,7 @@ fn chain_of(head: Record, records: &[Record]) -> Chain {
         tasks: head.b.into(),
         cores: head.a.into(),
         capacity: head.value,
+        dispatch: head.task,
         needs: values(2),
         flags: of_kind(2).map(|record| record.a == 1).collect(),
         limits: of_kind(2).map(Record::limit).collect(),
@@ -233,7 +239,8 @@ pub fn write(chain: &Chain) -> Vec<u8> {
         let (task, a, b) = (byte(task), byte(a), byte(b));
         bytes.extend(Key { kind, task, a, b }.record(value));
     };
-    record(1, 0, chain.cores, chain.tasks, chain.capacity);
+    let dispatch = chain.dispatch.into();
+    record(1, dispatch, chain.cores, chain.tasks, chain.capacity);
     for task in 1..=chain.tasks {
         let flag = usize::from(chain.replicable(task));
         let limit = chain.limit(task).unwrap_or(0);

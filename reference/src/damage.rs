@@ -3,7 +3,7 @@
 pub mod laws;
 
 use crate::cases;
-use crate::costs::{Chain, RECORD_BYTES};
+use crate::costs::{Chain, DISPATCH, RECORD_BYTES};
 use crate::greedy;
 use crate::plan::{self, Module, PLAN_BYTES, RULES};
 use crate::random::Random;
@@ -18,11 +18,12 @@ pub enum Damage {
     RepeatedRecord,
     OutOfRange,
     OtherLimit,
+    OtherDispatch,
     WrongHead,
     Several,
 }
 
-pub const DAMAGES: [Damage; 10] = [
+pub const DAMAGES: [Damage; 11] = [
     Damage::FlippedBit,
     Damage::SetByte,
     Damage::Cut,
@@ -31,11 +32,12 @@ pub const DAMAGES: [Damage; 10] = [
     Damage::RepeatedRecord,
     Damage::OutOfRange,
     Damage::OtherLimit,
+    Damage::OtherDispatch,
     Damage::WrongHead,
     Damage::Several,
 ];
 
-/// The file with that damage. Now and then it is still an accepted one.
+/// The file with that damage. Now and then it is still an accepted one; with another D (document 02, M-106) it always is.
 pub fn damaged(costs: &[u8], damage: Damage, random: &mut Random) -> Vec<u8> {
     let mut bytes = costs.to_vec();
     apply(&mut bytes, damage, random);
@@ -75,6 +77,7 @@ fn apply(bytes: &mut Vec<u8>, damage: Damage, random: &mut Random) {
         }
         Damage::OutOfRange => set_out_of_range(bytes, records, random),
         Damage::OtherLimit => set_limit(bytes, records, random),
+        Damage::OtherDispatch => bytes[DISPATCH] = random.pick(&[1, 2, 10, 127, 128, 255]),
         Damage::WrongHead => set_head(bytes, random),
         Damage::Several => {
             for _ in 0..random.within(2, 4) {
@@ -145,12 +148,13 @@ fn set_limit(bytes: &mut [u8], records: usize, random: &mut Random) {
     }
 }
 
-/// Another P, k or capacity, near and beyond the bounds.
+/// Another kind of the first record; or another P, k or capacity, near and beyond the bounds.
 fn set_head(bytes: &mut [u8], random: &mut Random) {
-    match random.below(4) {
-        0 => bytes[2] = random.pick(&[0, 1, 31, 32, 33, 64, 255]),
-        1 => bytes[3] = random.pick(&[0, 1, 11, 12, 13, 255]),
-        2 => bytes.swap(2, 3),
+    match random.below(5) {
+        0 => bytes[0] = random.pick(&[0, 2, 3, 129, 255]),
+        1 => bytes[2] = random.pick(&[0, 1, 31, 32, 33, 64, 255]),
+        2 => bytes[3] = random.pick(&[0, 1, 11, 12, 13, 255]),
+        3 => bytes.swap(2, 3),
         _ => {
             let capacity: u32 = random.pick(&[0, 1, 1_000_000, 1_000_001, u32::MAX]);
             bytes[4..8].copy_from_slice(&capacity.to_le_bytes());

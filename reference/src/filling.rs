@@ -43,7 +43,7 @@ fn read_head(head: &[u8]) -> Result<(usize, usize), Refusal> {
     if head.len() < RECORD_BYTES || !head.len().is_multiple_of(RECORD_BYTES) {
         return Err(Refusal::new(1));
     }
-    if head[0] != 1 || head[1] != 0 {
+    if head[0] != 1 {
         return Err(Refusal::new(2));
     }
     let (tasks, cores) = (usize::from(head[3]), usize::from(head[2]));

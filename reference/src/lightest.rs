@@ -77,8 +77,9 @@ fn append(chain: &Chain, table: &mut Table, bottleneck: Load, module: Module) {
         for next in nexts.clone() {
             let sent = transfer(chain, last, cores, next);
             let response = received + body + sent;
-            if let Some(copies) = fewest_copies(chain, module, response, bottleneck) {
-                table.add(module, next, (used + copies * cores, ticks + body + sent));
+            if let Some(module) = in_fewest_copies(chain, module, response, bottleneck) {
+                let ticks = ticks + body + sent + module.dispatch(chain);
+                table.add(module, next, (used + module.copies * cores, ticks));
             }
         }
     }
@@ -92,15 +93,25 @@ fn transfer(chain: &Chain, task: usize, s: usize, q: usize) -> u32 {
     chain.external(task, s, q)
 }
 
-/// Those that bring the response down to the bottleneck; none where more than the board's cores would be needed.
-fn fewest_copies(chain: &Chain, module: Module, response: u32, bottleneck: Load) -> Option<usize> {
+/// The module in as many copies as bring its response, which is that of one copy, down to the bottleneck; none where more than the
+/// board's cores would be needed.
+fn in_fewest_copies(
+    chain: &Chain,
+    module: Module,
+    response: u32,
+    bottleneck: Load,
+) -> Option<Module> {
     let most = if module.replicable(chain) {
         chain.cores
     } else {
         1
     };
-    (1..=most).find(|&copies| {
-        let copies = copies as u32;
-        !bottleneck.is_less(Load { response, copies })
+    let mut in_copies = (1..=most).map(|copies| Module { copies, ..module });
+    in_copies.find(|module| {
+        let load = Load {
+            response: response + module.dispatch(chain),
+            copies: module.copies as u32,
+        };
+        !bottleneck.is_less(load)
     })
 }

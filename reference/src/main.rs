@@ -55,11 +55,12 @@ fn repeated<'a>(costs: &'a [u8], search: &'a Search, searches: usize) -> Box<dyn
     Box::new(move || (0..searches).for_each(|_| search(black_box(costs), &mut plan, &mut work)))
 }
 
-/// Costs without memory needs and core limits, by which nothing cuts a search short.
+/// Costs without memory needs and core limits, by which nothing cuts a search short, and without a D (document 02, M-106).
 fn unlimited(kind: Kind, tasks: usize, cores: usize) -> Chain {
     let case = cases::sized(kind, tasks, cores, 7);
     let chain = case.chain();
     Chain {
+        dispatch: 0,
         needs: vec![0; tasks],
         flags: vec![true; tasks],
         limits: vec![None; tasks],
@@ -67,7 +68,7 @@ fn unlimited(kind: Kind, tasks: usize, cores: usize) -> Chain {
     }
 }
 
-/// Realistic costs, then adversarial ones.
+/// Realistic costs, then adversarial ones, then the first with the greatest D.
 fn files(tasks: usize, cores: usize) -> Vec<(&'static str, Chain)> {
     let realistic = unlimited(Kind::Realistic, tasks, cores);
     // a module of two tasks needs three cores
@@ -76,12 +77,17 @@ fn files(tasks: usize, cores: usize) -> Vec<(&'static str, Chain)> {
         needs: vec![150; tasks],
         ..realistic.clone()
     };
+    let handed_out = Chain {
+        dispatch: 255,
+        ..realistic.clone()
+    };
     vec![
         ("realistic, memory limits", limited),
         ("realistic", realistic),
         ("not monotone", unlimited(Kind::NotMonotone, tasks, cores)),
         ("one plan hidden", unlimited(Kind::Hidden, tasks, cores)),
         ("all equal", cases::constant(tasks, cores, 1_000)),
+        ("realistic, D = 255", handed_out),
     ]
 }
 

@@ -1,9 +1,9 @@
 //! The dynamic program of source document 000, 3.1 to 3.3, of O(P⁴k²) steps for each count of copies: the least bottleneck,
 //! without its plan.
 //!
-//! 3.2 lets the copies follow from the cores; here all counts of copies are weighed, since costs need not be monotone. With
-//! the cores of a copy as p_last and p_next, the length of the next module (3.3) decides nothing before that module's turn.
-//! Every loop ends where the board has no core left.
+//! 3.2 lets the copies follow from the cores; here all counts of copies are weighed, since costs need not be monotone, and
+//! handing out to copies may cost more than they save (document 02, M-106). With the cores of a copy as p_last and p_next, the
+//! length of the next module (3.3) decides nothing before that module's turn. Every loop ends where the board has no core left.
 
 use crate::costs::Chain;
 use crate::plan::{Load, Module};
@@ -64,7 +64,6 @@ fn append(chain: &Chain, table: &mut Table, first: usize, last: usize, cores: us
     if !module.memory_fits(chain) || !module.within_limit(chain) {
         return;
     }
-    let body = module.body(chain);
     let most = if module.replicable(chain) {
         chain.cores / cores
     } else {
@@ -72,6 +71,7 @@ fn append(chain: &Chain, table: &mut Table, first: usize, last: usize, cores: us
     };
     for copies in 1..=most {
         module.copies = copies;
+        let body = module.body(chain) + module.dispatch(chain);
         for total in copies * cores..=chain.cores {
             if last == chain.tasks {
                 weigh(chain, table, module, body, total, 0);
@@ -85,12 +85,13 @@ fn append(chain: &Chain, table: &mut Table, first: usize, last: usize, cores: us
     }
 }
 
-/// One entry of the table, with this module as the last one, over all cores of the module before it.
+/// One entry of the table, with this module as the last one, over all cores of the module before it. What it takes but for what it
+/// receives is given.
 fn weigh(
     chain: &Chain,
     table: &mut Table,
     module: Module,
-    body_and_sent: u32,
+    but_received: u32,
     total: usize,
     next: usize,
 ) {
@@ -100,13 +101,13 @@ fn weigh(
     let mut least = table.loads[entry];
     if module.first == 1 {
         if rest == 0 {
-            let response = body_and_sent;
+            let response = but_received;
             least = lesser(least, Load { response, copies });
         }
     } else {
         for before in 1..=rest {
             let received = chain.external(module.first - 1, before, module.cores);
-            let response = received + body_and_sent;
+            let response = received + but_received;
             let former = table.loads[table.at(module.first - 1, rest, before, module.cores)];
             least = lesser(least, greater(former, Load { response, copies }));
         }

@@ -1,5 +1,5 @@
 //! Document 01, "The chain and the board" and "Plan bytes", with the limits of document 02, M-100, its test of memory, M-103,
-//! and its single-block time, M-104: modules, rules, responses, figures and the 48 bytes.
+//! its single-block time, M-104, and the cost of handing out to copies, M-106: modules, rules, responses, figures and the 48 bytes.
 
 use std::cmp::Ordering;
 
@@ -56,6 +56,15 @@ impl Module {
         let internals = (self.first..self.last).map(|task| chain.internal(task, self.cores));
         executions.chain(internals).sum()
     }
+
+    /// M-106: what it takes to hand out to its copies, "D if its r is above 1", and nothing where there is one.
+    pub fn dispatch(&self, chain: &Chain) -> u32 {
+        if self.copies > 1 {
+            chain.dispatch.into()
+        } else {
+            0
+        }
+    }
 }
 
 /// A test of a module, by what its tasks need or allow.
@@ -77,6 +86,12 @@ pub const RULES: Rules = Rules {
 /// The sum of copies times cores.
 pub fn cores(plan: &[Module]) -> usize {
     plan.iter().map(|module| module.copies * module.cores).sum()
+}
+
+/// Whether modules of both end at the same tasks.
+pub fn same_split(plan: &[Module], other: &[Module]) -> bool {
+    let ends = |plan: &[Module]| plan.iter().map(|module| module.last).collect::<Vec<_>>();
+    ends(plan) == ends(other)
 }
 
 /// Whether the modules keep the rules of document 01 and are within the limits; they cover the tasks in order.
@@ -112,7 +127,8 @@ pub fn sent(chain: &Chain, plan: &[Module], i: usize) -> u32 {
 
 /// The response of the i-th module, counted from 0.
 pub fn response(chain: &Chain, plan: &[Module], i: usize) -> u32 {
-    received(chain, plan, i) + plan[i].body(chain) + sent(chain, plan, i)
+    let module = plan[i];
+    received(chain, plan, i) + module.body(chain) + sent(chain, plan, i) + module.dispatch(chain)
 }
 
 /// A response divided by the copies, not reduced: a bottleneck or one that might be.
@@ -161,12 +177,14 @@ pub fn bottleneck(chain: &Chain, plan: &[Module]) -> Load {
     loads[slowest(&loads)]
 }
 
-/// M-104: "That time adds each task's execution and each transfer once, at the plan's cores." Copies do not enter it.
+/// M-104: "That time adds each task's execution and each transfer once, at the plan's cores." By M-106 it rises by D for each module
+/// that has copies; how many these are does not enter it.
 pub fn block_time(chain: &Chain, plan: &[Module]) -> u32 {
     let execution = |task| chain.execution(task, module_of(plan, task).cores);
     let executions = (1..=chain.tasks).map(execution);
     let transfers = (1..chain.tasks).map(|task| transfer(chain, plan, task));
-    executions.chain(transfers).sum()
+    let dispatches = plan.iter().map(|module| module.dispatch(chain));
+    executions.chain(transfers).chain(dispatches).sum()
 }
 
 /// The transfer from a task to the next one: internal if one module has both, else external.

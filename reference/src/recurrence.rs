@@ -75,7 +75,7 @@ fn test_costs(costs: &[u8]) -> Result<(), Refusal> {
     if costs.len() < RECORD_BYTES || !costs.len().is_multiple_of(RECORD_BYTES) {
         return Err(Refusal::new(1));
     }
-    if costs[0] != 1 || costs[1] != 0 {
+    if costs[0] != 1 {
         return Err(Refusal::new(2));
     }
     let (tasks, cores) = (costs[3], costs[2]);

@@ -10,6 +10,7 @@ pub mod times;
 use crate::answer::Answer;
 use crate::cases::Case;
 use crate::compare::{self, Both, Difference, Lent};
+use crate::costs::DISPATCH;
 use crate::damage;
 use crate::every::WORK_WORDS;
 use crate::plan::PLAN_BYTES;
@@ -27,7 +28,7 @@ pub fn all(both: &Both, case: &Case, tally: &mut Tally) -> Result<(), Difference
         seed: random.word(),
     };
     let (answer, plan) = compare::best_plan(both, lent)?;
-    count("best plan", answer, tally);
+    count("best plan", both, answer, tally);
     judge_filled(both, answer, &plan, tally)?;
     all_groupings(both, case, lent, tally)?;
     for _ in 0..6 {
@@ -53,7 +54,7 @@ fn all_groupings(
     let beyond = (tasks - 1..16).map(|bit| 1 << bit | 1);
     for grouping in allowed.clone().chain(beyond) {
         let (answer, plan) = compare::greedy_plan(both, grouping, lent)?;
-        count("greedy plan", answer, tally);
+        count("greedy plan", both, answer, tally);
         judge_filled(both, answer, &plan, tally)?;
     }
     allowed.for_each(|grouping| memory::count_start(&chain, grouping, tally));
@@ -83,7 +84,7 @@ fn judge_filled(
 /// Judge on any plan bytes, their single-block time, and a timetable; the answer of Judge, and the time, 0 with a refusal.
 pub fn judged(both: &Both, plan: &[u8], tally: &mut Tally) -> Result<(Answer, u32), Difference> {
     let answer = compare::judge(both, plan)?;
-    count("judge", answer, tally);
+    count("judge", both, answer, tally);
     let time = times::of_judged(both, plan, answer, tally)?;
     tables::of_judged(both, plan, (answer, time), tally)?;
     Ok((answer, time))
@@ -98,10 +99,10 @@ pub fn damaged(both: &Both, random: &mut Random, tally: &mut Tally) -> Result<()
         seed: random.word(),
     };
     let (answer, _) = compare::best_plan(both, lent)?;
-    count("best plan", answer, tally);
+    count("best plan", both, answer, tally);
     let grouping = random.word() as u16 >> random.below(16);
     let (answer, _) = compare::greedy_plan(both, grouping, lent)?;
-    count("greedy plan", answer, tally);
+    count("greedy plan", both, answer, tally);
     let mut plan = damage::random_plan(3, 8, random).to_vec();
     plan.resize(lent.plan, 255);
     judged(both, &plan, tally)?;
@@ -110,18 +111,27 @@ pub fn damaged(both: &Both, random: &mut Random, tally: &mut Tally) -> Result<()
 }
 
 /// Counts the refusal, or what is particular about the figures.
-pub fn count(service: &str, answer: Answer, tally: &mut Tally) {
+pub fn count(service: &str, both: &Both, answer: Answer, tally: &mut Tally) {
     if answer.refusal != 0 {
         tally.add(format!("{service}: refusal {}", answer.refusal));
         return;
     }
     tally.add(format!("{service}: figures"));
+    let has_dispatch = both.costs[DISPATCH] > 0;
     let particulars = [
         (answer.modules > 1, "several modules"),
         (answer.modules > 2, "more than two modules"),
         (answer.slowest > 1, "slowest is not the first module"),
         (answer.copies > 1, "several copies of the slowest"),
         (answer.response == 0, "bottleneck 0"),
+        (
+            has_dispatch && answer.copies > 1,
+            "D in the slowest's response",
+        ),
+        (
+            has_dispatch && answer.copies == 1,
+            "a D, but not in the slowest's response",
+        ),
         (
             !answer.response.is_multiple_of(answer.copies),
             "bottleneck not a whole number",

@@ -15,12 +15,13 @@ use crate::judge;
 use crate::plan::{self, PLAN_BYTES};
 use lookup::Lookup;
 
-const GRAIN: u64 = 1024;
+/// A threshold counts in such parts of a tick.
+pub const GRAIN: u64 = 1024;
 
-/// The greatest threshold: no module takes more than 23,000,000 ticks.
-const TOP: u64 = 23_000_000 * GRAIN;
+/// The greatest threshold: no module takes more than 23,000,000 ticks, and with copies (document 02, M-106) 255 more.
+pub const TOP: u64 = 23_000_255 * GRAIN;
 
-/// What a core weighs, more than all ticks of a plan, of which each weighs 1.
+/// What a core weighs, more than all ticks of a plan, 23,003,060 at most, of which each weighs 1.
 const UNIT: u32 = 1 << 25;
 
 /// Answers and leaves the lent bytes and words as `every::best_plan` does.

@@ -127,6 +127,11 @@ mod tests {
             "small dock by laws, execution of task 2 by 1 20 0: block time of 1 2 1 3 => time 8",
             "small dock, capacity = 0: read => refusal 3",
             "small dock: read => accepted",
+            "small dock, D = 255: read => accepted",
+            "small dock, D = 10: judge 1 2 2 2 => 1 module, 4 cores, slowest 1, response 28, r 2",
+            "small dock, task of record 1 = 10: block time of 1 2 2 2 => time 28",
+            "small dock by laws, D = 7: fill costs => 248 bytes",
+            "small dock by laws, D = 7: block time of 1 2 2 2 => time 7",
         ] {
             assert_eq!(run(right), Ok(()), "{right}");
         }
@@ -158,6 +163,10 @@ mod tests {
             "small dock: block time of 1 2 1 1 => refusal 14",
             "small dock: block time of 1 2 1 1 => time 33",
             "small dock, capacity = 0: block time of 1 2 2 2 => time 18",
+            "small dock, D = 10: judge 1 2 2 2 => 1 module, 4 cores, slowest 1, response 18, r 2",
+            "small dock, D = 10: judge 1 2 1 2 => 1 module, 2 cores, slowest 1, response 28, r 1",
+            "small dock, D = 10: block time of 1 2 2 2 => time 18",
+            "small dock, D = 10: read => refusal 2",
             "every law 0, k = 1, P = 1: fill costs => 32 bytes",
             "every law 0, k = 1, P = 1: fill costs => refusal 19",
             "every law 0, k = 1, P = 1: fill costs => 24 bytes, execution of task 1 = 1",
@@ -184,6 +193,10 @@ mod tests {
             "small dock, execution of task 1 = 1 2 3 4 5: best plan => refusal 9",
             "small dock, byte 248 = 1: read => refusal 6, place 31",
             "small dock, byte 0 = 256: read => refusal 2",
+            "small dock, D = 256: read => accepted",
+            "small dock, D = 1 2: read => accepted",
+            "small dock, D = : read => accepted",
+            "small dock, D of task 1 = 1: read => accepted",
             "small dock, cut to 249 bytes: read => refusal 1",
             "every cost 0, k = 13, P = 1: read => accepted",
             "every cost 0, P = 1, k = 1: read => accepted",

@@ -23,6 +23,7 @@ fn files() -> Vec<Case> {
         Kind::Reaches,
         Kind::Shares,
         Kind::BlockTimes,
+        Kind::Dispatch,
     ];
     let mut files: Vec<Case> = kinds
         .into_iter()
@@ -40,7 +41,7 @@ fn files() -> Vec<Case> {
     }
     let refusal = |case: &Case| REFERENCE.best_filled(&case.costs).0.refusal;
     let refusals: Vec<u32> = files.iter().map(refusal).collect();
-    assert_eq!(refusals, [0, 0, 9, 0, 0, 9, 0, 0, 0, 6, 1, 1]);
+    assert_eq!(refusals, [0, 0, 9, 0, 0, 9, 0, 0, 0, 0, 6, 1, 1]);
     files
 }
 

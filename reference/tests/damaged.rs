@@ -4,7 +4,7 @@ use reference::answer::Refusal;
 use reference::cases::{self, Case, Kind};
 use reference::compare::{self, Both, Lent};
 use reference::costs::{self, MOST_CORES, RECORD_BYTES};
-use reference::damage::{self, DAMAGES};
+use reference::damage::{self, DAMAGES, Damage};
 use reference::every::WORK_WORDS;
 use reference::plan::{self, Module, PLAN_BYTES, RECORDS};
 use reference::random::Random;
@@ -22,6 +22,8 @@ fn damaged_files() {
         let kind = DAMAGES[seed as usize / OF_EACH_DAMAGE];
         let (costs, mut random) = damage::small(seed, kind);
         tally.add(format!("damage {kind:?}"));
+        // whatever D is, the costs are accepted
+        assert!(kind != Damage::OtherDispatch || costs::read(&costs).is_ok());
         let both = Both::on(&REFERENCE, &LIBRARY, &costs);
         if let Err(difference) = round::damaged(&both, &mut random, &mut tally) {
             compare::fail(seed, &costs, &difference);
@@ -38,6 +40,7 @@ fn damaged_files() {
         tally.assert_at_least(&format!("{service}: refusal 7"), 500);
     }
     tally.assert_at_least("best plan: refusal 8", 500);
+    tally.assert_at_least("best plan: D in the slowest's response", 600);
     for refusal in 1..=6 {
         tally.assert_at_least(&format!("reach: refusal {refusal}"), 500);
     }

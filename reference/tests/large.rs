@@ -15,7 +15,7 @@ fn check(case: &Case, tally: &mut Tally) -> Result<(), Difference> {
     let both = Both::on(&QUICK_REFERENCE, &LIBRARY, &case.costs);
     let lent = Lent::enough(case.seed);
     let (answer, plan) = compare::best_plan(&both, lent)?;
-    round::count("best plan", answer, tally);
+    round::count("best plan", &both, answer, tally);
     let (_, time) = round::judged(&both, &plan, tally)?;
     round::dynamic::expect_least(&case.chain(), answer, time)?;
     let mut random = Random::new(case.seed);
@@ -23,7 +23,7 @@ fn check(case: &Case, tally: &mut Tally) -> Result<(), Difference> {
         let grouping = random.word() as u16 & ((1 << (case.costs[3] - 1)) - 1);
         let grouping = grouping & random.word() as u16;
         let (answer, plan) = compare::greedy_plan(&both, grouping, lent)?;
-        round::count("greedy plan", answer, tally);
+        round::count("greedy plan", &both, answer, tally);
         round::judged(&both, &plan, tally)?;
     }
     round::reaches::all(&both, case, &mut random, tally)?;
@@ -54,11 +54,18 @@ fn most_tasks_and_cores() {
     tally.assert_at_least("reach: shorter than by needs added up", 12);
 }
 
+/// All times equal; in the last four chains with the greatest D (document 02, M-106), in the very last of which a core holds one task
+/// only, and a block takes as long as it can in a best plan.
 #[test]
 fn greatest_and_least_times() {
-    let mut chains = [0, 1, MOST_VALUE].map(|time| cases::constant(MOST_TASKS, MOST_CORES, time));
+    let times = [0, 1, MOST_VALUE, 0, 1, MOST_VALUE, MOST_VALUE];
+    let mut chains = times.map(|time| cases::constant(MOST_TASKS, MOST_CORES, time));
     chains[1].flags[5] = false;
     chains[2].flags.fill(false);
+    chains[3..]
+        .iter_mut()
+        .for_each(|chain| chain.dispatch = 255);
+    chains[6].needs.fill(1);
     let files = chains.iter().map(|chain| Case {
         seed: 0,
         kind: Kind::Ties,

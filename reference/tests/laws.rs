@@ -62,12 +62,14 @@ fn filled_into(room: usize, case: &LawCase) -> Filled {
 }
 
 /// How often each thing is to be met where costs that were filled in are planned.
-const PLANNED: [(&str, usize); 20] = [
+const PLANNED: [(&str, usize); 22] = [
     ("best plan: refusal 9", 1_000),
     ("best plan: several modules", 3_500),
     ("best plan: more than two modules", 1_200),
     ("best plan: several copies of the slowest", 3_500),
     ("best plan: bottleneck not a whole number", 2_500),
+    ("best plan: D in the slowest's response", 1_800),
+    ("judge: D in the slowest's response", 3_000),
     ("greedy plan: several modules", 40_000),
     ("greedy plan: refusal 11", 40_000),
     ("judge: figures", 12_000),

@@ -101,6 +101,8 @@ fn assert_all_met(tally: &Tally) {
         ("best plan: more than two modules", 1_000),
         ("best plan: slowest is not the first module", 1_000),
         ("best plan: several copies of the slowest", 2_000),
+        ("best plan: D in the slowest's response", 5_800),
+        ("best plan: a D, but not in the slowest's response", 21_000),
         ("best plan: bottleneck 0", 500),
         ("best plan: bottleneck not a whole number", 1_000),
         ("greedy plan: several modules", 10_000),
@@ -111,6 +113,8 @@ fn assert_all_met(tally: &Tally) {
         ("greedy plan: more cores at the start", 1_600),
         ("judge: figures", 119_000),
         ("judge: several copies of the slowest", 14_500),
+        ("judge: D in the slowest's response", 14_000),
+        ("judge: a D, but not in the slowest's response", 83_000),
         ("judge: refusal 12", 67_500),
         ("judge: refusal 13", 48_000),
         ("judge: refusal 14", 97_000),
@@ -197,11 +201,14 @@ fn limits_decide() {
 }
 
 /// Two tasks and two plans that are far better than all others: copies + 1 copies of both tasks in one module, or so many
-/// copies of task 1 and one of task 2. Their bottlenecks differ by 1 ÷ (copies · (copies + 1)), as little as can be.
-fn nearly_equal_plans(copies: usize, transfer: u32, first_is_less: bool) -> Chain {
+/// copies of task 1 and one of task 2. Their bottlenecks differ by 1 ÷ (copies · (copies + 1)), as little as can be. What D adds to
+/// task 1 it takes less; D is not so great that one copy would do.
+fn nearly_equal_plans(copies: usize, transfer: u32, first_is_less: bool, dispatch: u8) -> Chain {
     let mut chain = cases::constant(2, copies + 1, MOST_VALUE);
     let even = transfer * copies as u32;
-    chain.executions[0] = if first_is_less { even + 1 } else { even - 1 };
+    let handed_out = (even / 2 - 1).min(dispatch.into());
+    chain.dispatch = handed_out as u8;
+    chain.executions[0] = if first_is_less { even + 1 } else { even - 1 } - handed_out;
     chain.executions[chain.cores] = 0;
     chain.internals[0] = transfer;
     chain.externals[0] = 0;
@@ -214,19 +221,21 @@ fn fractions_as_near_as_can_be() {
     for copies in 2..MOST_CORES {
         for transfer in [1, 2, 3, 30_000] {
             for (seed, first_is_less) in [(0, true), (1, false)] {
-                let chain = nearly_equal_plans(copies, transfer, first_is_less);
-                let costs = costs::write(&chain);
-                let both = Both::on(&REFERENCE, &LIBRARY, &costs);
-                match compare::best_plan(&both, Lent::enough(seed)) {
-                    Ok((answer, _)) => tally.add(format!("{} modules", answer.modules)),
-                    Err(difference) => compare::fail(seed, &costs, &difference),
+                for dispatch in [0, 1, 10, 255] {
+                    let chain = nearly_equal_plans(copies, transfer, first_is_less, dispatch);
+                    let costs = costs::write(&chain);
+                    let both = Both::on(&REFERENCE, &LIBRARY, &costs);
+                    match compare::best_plan(&both, Lent::enough(seed)) {
+                        Ok((answer, _)) => tally.add(format!("{} modules", answer.modules)),
+                        Err(difference) => compare::fail(seed, &costs, &difference),
+                    }
                 }
             }
         }
     }
     tally.print("nearly equal plans");
-    tally.assert_at_least("1 modules", 100);
-    tally.assert_at_least("2 modules", 100);
+    tally.assert_at_least("1 modules", 480);
+    tally.assert_at_least("2 modules", 480);
 }
 
 #[test]

@@ -1,12 +1,12 @@
 //! Document 02, M-104, "Equally good, more finely": how often the files that are made have plans of equal bottleneck and equal
-//! cores, and what decides between these; and times as great as can be.
+//! cores, and what decides between these, the cost of handing out to copies (M-106) included; and times as great as can be.
 
 use reference::answer::{Answer, Refusal};
 use reference::cases::{self, small_of_each};
 use reference::compare::{self, Both, Difference, Lent};
 use reference::costs::{self, Chain, MOST_TASKS, MOST_VALUE};
 use reference::every::{self, each_plan};
-use reference::plan::{self, Module};
+use reference::plan::{self, Module, same_split};
 use reference::random::Random;
 use reference::round::dynamic::expect_least;
 use reference::services::{LIBRARY, QUICK_REFERENCE, REFERENCE};
@@ -27,12 +27,6 @@ fn equals(chain: &Chain, best: &[Module]) -> Vec<Vec<Module>> {
     equals
 }
 
-/// Whether modules of both end at the same tasks.
-fn same_split(plan: &[Module], other: &[Module]) -> bool {
-    let ends = |plan: &[Module]| plan.iter().map(|module| module.last).collect::<Vec<_>>();
-    ends(plan) == ends(other)
-}
-
 /// Whether some module of the other has its r and p, which differ, exchanged.
 fn exchanges(plan: &[Module], other: &[Module]) -> bool {
     let mut pairs = plan.iter().zip(other);
@@ -50,15 +44,29 @@ fn sends_cheaply(chain: &Chain, plan: &[Module]) -> bool {
     })
 }
 
+/// What it takes to hand out to the copies of all modules that have some (M-106).
+fn handed_out(chain: &Chain, plan: &[Module]) -> u32 {
+    plan.iter().map(|module| module.dispatch(chain)).sum()
+}
+
+/// The time but for that.
+fn other_ticks(chain: &Chain, plan: &[Module]) -> u32 {
+    plan::block_time(chain, plan) - handed_out(chain, plan)
+}
+
 /// Whether it is so, and what.
 type Particular = (bool, &'static str);
 
 /// What is said of the best plan among its equals. Module order alone, as it was before, is the first of them.
-fn of_best(chain: &Chain, best: &[Module], equals: &[Vec<Module>]) -> [Particular; 6] {
+fn of_best(chain: &Chain, best: &[Module], equals: &[Vec<Module>]) -> [Particular; 8] {
     let time = plan::block_time(chain, best);
     let is_another = equals[0] != best;
     let as_quick = |rival: &Vec<Module>| plan::block_time(chain, rival) == time;
-    let several = equals.iter().filter(|&rival| as_quick(rival)).count() > 1;
+    let quickest: Vec<_> = equals.iter().filter(|&rival| as_quick(rival)).collect();
+    let several = quickest.len() > 1;
+    let is_charged = |rival: &&&Vec<Module>| handed_out(chain, rival) > 0;
+    let charged = quickest.iter().filter(is_charged).count();
+    let by_other_ticks = equals.iter().min_by_key(|rival| other_ticks(chain, rival));
     [
         (equals.len() == 1, "the only one"),
         (is_another, "not the first in module order, by time"),
@@ -75,11 +83,19 @@ fn of_best(chain: &Chain, best: &[Module], equals: &[Vec<Module>]) -> [Particula
             "the first in module order of several that take as long",
         ),
         (is_another && several, "by time and then by module order"),
+        (
+            by_other_ticks.is_some_and(|rival| rival != best),
+            "another one without D in the time",
+        ),
+        (
+            (1..quickest.len()).contains(&charged),
+            "as quick as others, some with D and some without",
+        ),
     ]
 }
 
 /// What is said of those of the equals that take longer than the best plan.
-fn of_longer(chain: &Chain, best: &[Module], equals: &[Vec<Module>]) -> [Particular; 5] {
+fn of_longer(chain: &Chain, best: &[Module], equals: &[Vec<Module>]) -> [Particular; 6] {
     let time = plan::block_time(chain, best);
     let is_longer = |rival: &&Vec<Module>| plan::block_time(chain, rival) > time;
     let longer: Vec<&Vec<Module>> = equals.iter().filter(is_longer).collect();
@@ -102,6 +118,10 @@ fn of_longer(chain: &Chain, best: &[Module], equals: &[Vec<Module>]) -> [Particu
             some(&|rival| rival[0] == best[0] && exchanges(rival, best)),
             "some equal one with r and p exchanged behind the first module takes longer",
         ),
+        (
+            some(&|rival| other_ticks(chain, rival) == other_ticks(chain, best)),
+            "some equal one takes longer by D alone",
+        ),
     ]
 }
 
@@ -120,7 +140,7 @@ fn met(chain: &Chain) -> Vec<&'static str> {
 }
 
 /// In how many of the small files of a kind each thing is to be met, of a thousand.
-const FLOORS: [(&str, usize); 16] = [
+const FLOORS: [(&str, usize); 19] = [
     ("BlockTimes, not the first in module order, by time", 370),
     (
         "BlockTimes, not the first in module order, by time: another split",
@@ -148,6 +168,12 @@ const FLOORS: [(&str, usize); 16] = [
     (
         "BlockTimes, the first in module order of several that take as long",
         180,
+    ),
+    ("Dispatch, another one without D in the time", 140),
+    ("Dispatch, some equal one takes longer by D alone", 60),
+    (
+        "Dispatch, as quick as others, some with D and some without",
+        40,
     ),
     ("Ties, not the first in module order, by time", 35),
     ("Limits, not the first in module order, by time", 18),

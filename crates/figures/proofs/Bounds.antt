@@ -1,5 +1,5 @@
 -- What holds of every plan that keeps the rules: few modules, copies and cores within the board, and on a board's costs no
--- response above 2k - 1 values. By induction along the plan. Assumes nothing.
+-- response above 2k - 1 values and D. By induction along the plan. Assumes nothing.
 use mathlib.Core.Path.{_≡_, refl}
 use mathlib.Core.Bool.{true}
 use mathlib.Core.List.{List, [], _∷_, List·Memᴰ, List·Memᴰ·not-nil, List·Memᴰ·cases-cons}
@@ -12,7 +12,7 @@ use Rattle.records.specs.Costs.{mostValue}
 use Rattle.records.specs.Format.{IsCosts}
 use Rattle.lookups.proofs.Laws.{execution-most, internal-most, external-most}
 use Rattle.modules.specs.declared.Module.{Module}
-use Rattle.modules.specs.Model.{Chain, chainOf}
+use Rattle.modules.specs.Model.{Chain, chainOf, handed}
 use Rattle.modules.proofs.Amounts.{CostsMost, response-most}
 use Rattle.figures.specs.declared.Slowest.{Slowest}
 use Rattle.figures.specs.Model.{headCores, coresOf, bottleneck}
@@ -37,9 +37,9 @@ pub none-after : (k t : ℕ) (ms : List Module) → covers k t ms ≡ true → t
 none-after k t [] e d = refl
 none-after k t (m ∷ ms) e d = absurd (let h = covers-head k t m ms e in omega arith)
 
--- every load of a plan is at most 2k - 1 values
+-- every load of a plan is at most 2k - 1 values and what handing out to its copies costs
 pub loads-most : (c : Chain) (most : ℕ) → CostsMost c most → (k t : ℕ) (ms : List Module) (s n : ℕ) → covers k t ms ≡ true → 1 ≤ t → (t ≡ 1 → s ≡ 0)
-    → (x : Slowest) → List·Memᴰ x (loads c s n ms) → x .response ≤ (2 * k - 1) * most
+    → (x : Slowest) → List·Memᴰ x (loads c s n ms) → x .response ≤ (2 * k - 1) * most + handed c (x .copies)
 unfolding loads
 loads-most c most b k t [] s n e l z x i = absurd (List·Memᴰ·not-nil i)
 loads-most c most b k t (m ∷ ms) s n e l z x i =
@@ -53,7 +53,7 @@ loads-most c most b k t (m ∷ ms) s n e l z x i =
 pub costs-most : (s : List ℕ) (b : Board) → IsCosts s b → CostsMost (chainOf s b) mostValue
 costs-most s b c = record { execution = execution-most s b c; internal = internal-most s b c; external = external-most s b c }
 
-pub bottleneck-most : (c : Chain) (most k : ℕ) (ms : List Module) → CostsMost c most → covers k 1 ms ≡ true → bottleneck c ms .response ≤ (2 * k - 1) * most
+pub bottleneck-most : (c : Chain) (most k : ℕ) (ms : List Module) → CostsMost c most → covers k 1 ms ≡ true → bottleneck c ms .response ≤ (2 * k - 1) * most + handed c (bottleneck c ms .copies)
 unfolding bottleneck
 bottleneck-most c most k [] b e = omega arith
 bottleneck-most c most k (m ∷ ms) b e = loads-most c most b k 1 (m ∷ ms) 0 1 e (omega arith) (λ _. refl) _ (bottleneck-is c k 1 m ms e .one)

@@ -1,19 +1,24 @@
--- The single-block time (document 02, M-104): task by task it adds each execution and each transfer once, so it is at most 2k - 1 values;
--- and the modules' responses add up to it and each external transfer once more. By induction along the plan. Assumes nothing.
+-- The single-block time (document 02, M-104 and M-106): task by task it adds each execution and each transfer once, and D for each module that
+-- has copies, so it is at most 2k - 1 values and D for each of these; and the modules' responses add up to it and each external transfer once more. By
+-- induction along the plan. Assumes nothing.
 use mathlib.Core.Path.{_≡_, refl, ap, _∙_}
 use mathlib.Core.Bool.{Bool, true, false, cond}
 use mathlib.Core.List.{List, [], _∷_}
-use Prim.Native.Nat.{ℕ, _+_, _-_, _*_, _≤_, _<_}
+use mathlib.Core.Logic.{⊎-elim}
+use Prim.Native.Nat.{ℕ, suc, _+_, _-_, _*_, _≤_, _<_}
+use native.Mathlib.Nat.{suc-mul}
 use native.Mathlib.Omega.{arith}
-use borrow.Author.Tests.{le-leb, lt-leb, eq-eqb, ne-eqb}
+use lib.ListN.{length}
+use borrow.Author.Tests.{le-leb, lt-leb, lt-ltb, le-ltb, eq-eqb, ne-eqb}
+use Rattle.records.proofs.Cases.{lt-or-le}
 use Rattle.modules.specs.declared.Module.{Module}
-use Rattle.modules.specs.Model.{Chain, gather, body, transfer}
+use Rattle.modules.specs.Model.{Chain, gather, body, transfer, handed}
 use Rattle.modules.proofs.Sums.{gather-none, gather-split, gather-same}
 use Rattle.modules.proofs.Amounts.{CostsMost, gather-most, no-sender, no-receiver}
-use Rattle.modules.proofs.Laws.{passage-parts, response-passage}
+use Rattle.modules.proofs.Laws.{passage-parts, response-passage, handed-some, handed-none}
 use Rattle.figures.specs.Model.{responses, blockTime}
 use Rattle.figures.specs.Rules.{covers}
-use Rattle.figures.specs.Claims.{coresAt, endsAt, executionIn, transferIn, sum, externals}
+use Rattle.figures.specs.Claims.{coresAt, endsAt, executionIn, transferIn, copiedOf, sum, externals}
 use Rattle.figures.proofs.Covering.{covers-head, covers-end}
 
 -- ---- where a task is
@@ -70,15 +75,29 @@ module _ (c : Chain) where
       let x : m .last < i + 1 = omega arith in
       rw (transferIn, ends-later m ms i w, cores-later m ms i w, cores-later m ms (i + 1) x))
 
-  pub time-tasks : (k t : ℕ) (ms : List Module) → covers k t ms ≡ true → blockTime c ms ≡ gather (executionIn c ms) (transferIn c ms) t k
+  -- what handing out to the first module's copies costs
+  copied-in : (m : Module) (ms : List Module) → copiedOf (m ∷ ms) * c .handOut ≡ handed c (m .copies) + copiedOf ms * c .handOut
+  unfolding copiedOf
+  copied-in m ms = ⊎-elim
+      (λ h. let e : 1 + copiedOf ms ≡ suc (copiedOf ms) = omega arith in
+      rw (lt-ltb 1 (m .copies) h, handed-some c (m .copies) h, e) (omega (arith, suc-mul (copiedOf ms) (c .handOut))))
+      (λ h. let e : 0 + copiedOf ms ≡ copiedOf ms = omega arith in rw (le-ltb 1 (m .copies) h, handed-none c (m .copies) h, e) (omega arith))
+      (lt-or-le 1 (m .copies))
+
+  none-copied : copiedOf [] * c .handOut ≡ 0
+  unfolding copiedOf
+  none-copied = omega arith
+
+  pub time-tasks : (k t : ℕ) (ms : List Module) → covers k t ms ≡ true
+      → blockTime c ms ≡ gather (executionIn c ms) (transferIn c ms) t k + copiedOf ms * c .handOut
   unfolding blockTime
-  time-tasks k t [] e = omega (arith, gather-none (executionIn c []) (transferIn c []) t k (omega (arith, covers-end k t e)))
+  time-tasks k t [] e = omega (arith, none-copied, gather-none (executionIn c []) (transferIn c []) t k (omega (arith, covers-end k t e)))
   time-tasks k t (m ∷ []) e =
       let z = covers-head k t m [] e in
       let l : m .last ≡ k = omega (arith, covers-end k (m .last + 1) (z .5)) in
       let b = body-in m [] t in
       let p = passage-parts c (m .first) (m .last) (m .copies) (m .cores) 0 in
-      rw (← l) (omega (arith, p, ap (λ (i : ℕ). body c i (m .last) (m .cores)) (z .0), b, no-receiver c (m .last) (m .cores)))
+      rw (← l) (omega (arith, p, copied-in m [], none-copied, ap (λ (i : ℕ). body c i (m .last) (m .cores)) (z .0), b, no-receiver c (m .last) (m .cores)))
   time-tasks k t (m ∷ (x ∷ ms)) e =
       let z = covers-head k t m (x ∷ ms) e in
       let y = covers-head k (m .last + 1) x ms (z .5) in
@@ -86,6 +105,7 @@ module _ (c : Chain) where
       omega (
         arith,
         passage-parts c (m .first) (m .last) (m .copies) (m .cores) (x .cores),
+        copied-in m (x ∷ ms),
         ap (λ (i : ℕ). body c i (m .last) (m .cores)) (z .0),
         gather-split (executionIn c (m ∷ (x ∷ ms))) (transferIn c (m ∷ (x ∷ ms))) t (m .last) k (omega arith) (omega arith),
         body-in m (x ∷ ms) t,
@@ -96,8 +116,22 @@ module _ (c : Chain) where
 
 -- ---- the most that it can be
 
-pub time-most : (c : Chain) (most k : ℕ) (ms : List Module) → CostsMost c most → covers k 1 ms ≡ true → blockTime c ms ≤ (2 * (k - 1) + 1) * most
-time-most c most k ms b e = omega (arith, time-tasks c k 1 ms e, gather-most (executionIn c ms) (transferIn c ms) most executed sent 1 k)
+-- no more modules have copies than there are
+pub copied-most : (ms : List Module) → copiedOf ms ≤ length ms
+unfolding copiedOf length
+copied-most [] = omega arith
+copied-most (m ∷ ms) = ⊎-elim
+    (λ h. rw (lt-ltb 1 (m .copies) h) (omega (arith, copied-most ms)))
+    (λ h. rw (le-ltb 1 (m .copies) h) (omega (arith, copied-most ms)))
+    (lt-or-le 1 (m .copies))
+
+pub time-most : (c : Chain) (most k : ℕ) (ms : List Module) → CostsMost c most → covers k 1 ms ≡ true → blockTime c ms ≤ (2 * (k - 1) + 1) * most + copiedOf ms * c .handOut
+time-most c most k ms b e =
+    omega (
+      arith,
+      time-tasks c k 1 ms e,
+      gather-most (executionIn c ms) (transferIn c ms) most executed sent 1 k,
+    )
   where
     executed : (t : ℕ) → executionIn c ms t ≤ most
     executed t = b .execution t (coresAt ms t)

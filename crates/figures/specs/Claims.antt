@@ -1,8 +1,8 @@
--- The documents' words on the bottleneck (document 01) and on the single-block time (document 02, M-104) as direct statements, beside the
--- definitions that run. Assumes nothing.
+-- The documents' words on the bottleneck (document 01) and on the single-block time (document 02, M-104 and M-106) as direct statements,
+-- beside the definitions that run. Assumes nothing.
 use mathlib.Core.List.{List, [], _∷_, List·Memᴰ}
 use mathlib.Core.Bool.{Bool, false, cond}
-use lib.Dec.{leb, eqb}
+use lib.Dec.{ltb, leb, eqb}
 use Prim.Native.Nat.{ℕ, _+_, _*_, _≤_, _<_}
 use Rattle.modules.specs.declared.Module.{Module}
 use Rattle.modules.specs.Model.{Chain, gather, transfer}
@@ -50,6 +50,11 @@ transferIn c ms t = cond (endsAt ms t) (c .external t (coresAt ms t) (coresAt ms
 -- "adds each task's execution and each transfer once"
 abbrev pub onceEach : Chain → List Module → ℕ
 onceEach c ms = gather (executionIn c ms) (transferIn c ms) 1 (c .tasks)
+
+-- M-106: the modules whose "r is above 1", counted
+unfoldable pub copiedOf : List Module → ℕ
+copiedOf [] = 0
+copiedOf (m ∷ ms) = cond (ltb 1 (m .copies)) 1 0 + copiedOf ms
 
 -- the sum of numbers
 unfoldable pub sum : List ℕ → ℕ

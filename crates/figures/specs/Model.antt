@@ -1,5 +1,5 @@
--- A plan in the chain model (document 01, "The chain and the board"; document 02, M-104; source document 000, 2.1 and 2.2): a list of
--- modules. Assumes nothing.
+-- A plan in the chain model (document 01, "The chain and the board"; document 02, M-104 and M-106; source document 000, 2.1 and 2.2): a list
+-- of modules. Assumes nothing.
 use Prim.Native.Nat.{ℕ, _+_, _*_}
 use mathlib.Core.List.{List, [], _∷_}
 use mathlib.Core.Bool.{cond}
@@ -43,7 +43,7 @@ bottleneck c [] = record { number = 0; response = 0; copies = 0 }
 bottleneck c (m ∷ ms) = slowestFrom c (m .cores) 2 (record { number = 1; response = responseOf c 0 m ms; copies = m .copies }) ms
 
 -- M-104: the single-block time of a plan, which adds each task's execution and each transfer, within a module or between two, once, at
--- the plan's cores
+-- the plan's cores, and by M-106 D for each module whose r is above 1
 unfoldable pub blockTime : Chain → List Module → ℕ
 blockTime c [] = 0
 blockTime c (m ∷ ms) = passage c (m .first) (m .last) (m .copies) (m .cores) (headCores ms) + blockTime c ms

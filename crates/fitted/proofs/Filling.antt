@@ -139,7 +139,7 @@ module _ (head l : List ℕ) (b : Board) (first : IsFirst head b) (laws : IsLaws
   unfolding recordOf
   later-bears n a u = record {
     kind = later-byte n 0 a u (omega arith);
-    task = later-byte n 1 a u (omega arith);
+    task = λ _. later-byte n 1 a u (omega arith);
     a = λ _. later-byte n 2 a u (omega arith);
     b = λ _. later-byte n 3 a u (omega arith);
   }
@@ -163,7 +163,7 @@ module _ (head l : List ℕ) (b : Board) (first : IsFirst head b) (laws : IsLaws
       let h = first .right n a (omega arith) in (
         record {
           kind = first-byte (8 * n + 0) (omega arith) ∙ h .0 .kind;
-          task = first-byte (8 * n + 1) (omega arith) ∙ h .0 .task;
+          task = λ other. first-byte (8 * n + 1) (omega arith) ∙ h .0 .task other;
           a = λ other. absurd (other refl);
           b = λ other. absurd (other refl);
         },
@@ -199,7 +199,7 @@ module _ (head l : List ℕ) (b : Board) (first : IsFirst head b) (laws : IsLaws
   costs : IsCosts s b
   unfolding s k p
   costs = record {
-    headed = record { kind = first-byte 0 (omega arith) ∙ first .headed .kind; task = first-byte 1 (omega arith) ∙ first .headed .task };
+    headed = record { kind = first-byte 0 (omega arith) ∙ first .headed .kind };
     board = same-board;
     ranged = first .ranged;
     long = all-long;
@@ -222,7 +222,7 @@ module _ (head l : List ℕ) (b : Board) (first : IsFirst head b) (laws : IsLaws
       after h d =
           let other-kind : kind ≡ 2 → ⊥ = λ z. omega arith in
           let e₀ : dueKey k p n .kind ≡ kind = sym (d .kind) ∙ e .kind in
-          let e₁ : dueKey k p n .task ≡ t = sym (d .task) ∙ e .task in
+          let e₁ : dueKey k p n .task ≡ t = sym (d .task (λ z. omega (arith, later-kind n h))) ∙ e .task (λ z. omega arith) in
           let e₂ : dueKey k p n .a ≡ a = sym (d .a (λ z. omega (arith, later-kind n h))) ∙ e .a other-kind in
           let e₃ : dueKey k p n .b ≡ c = sym (d .b (λ z. omega (arith, later-kind n h))) ∙ e .b other-kind in
           later-value n h u ∙ rw (e₀, e₁, e₂, e₃) (refl)

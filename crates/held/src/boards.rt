@@ -1,13 +1,21 @@
 // Lookups on a slice and a board, each by way of the struct that holds both (held.rt).
 ghost use mathlib.Core.Path.{_≡_};
-ghost use Rattle.lookups.specs.Lookups.{needOf, replicableOf, limitOf, executionOf, internalOf, pairOf, externalOf};
+ghost use Rattle.lookups.specs.Lookups.{handOutOf, needOf, replicableOf, limitOf, executionOf, internalOf, pairOf, externalOf};
 use crate::held::execution_of;
 use crate::held::external_of;
+use crate::held::hand_out_of;
 use crate::held::internal_of;
 use crate::held::limit_of;
 use crate::held::need_of;
 use crate::held::replicable_of;
 use records::Board;
+
+// What handing out to copies costs, in ticks (document 02, M-106).
+pub fn hand_out(costs: &[u8], board: Board) -> u32
+    ensures { λ r. ⌜ r ≡ handOutOf (now (costs .entry)) ⌝ }
+{
+    hand_out_of(costs, board.tasks, board.cores)
+}
 
 // The memory need of a task, in KiB.
 pub fn need(costs: &[u8], board: Board, task: u8) -> u32

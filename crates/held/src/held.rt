@@ -1,10 +1,11 @@
 // Cost records that were read, held in a struct with k and P: few thin lookups over the functions on slice and numbers, and above
 // them functions with plain parameters that make the struct and pass it on.
 ghost use mathlib.Core.Path.{_≡_};
-ghost use Rattle.lookups.specs.Lookups.{needOf, replicableOf, limitOf, executionOf, internalOf, pairOf, externalOf, boardWith};
+ghost use Rattle.lookups.specs.Lookups.{handOutOf, needOf, replicableOf, limitOf, executionOf, internalOf, pairOf, externalOf, boardWith};
 ghost use Rattle.held.specs.Held.{Holds};
 use lookups::execution_at;
 use lookups::external_at;
+use lookups::hand_out_at;
 use lookups::internal_at;
 use lookups::limit_at;
 use lookups::need_at;
@@ -26,6 +27,13 @@ pub fn hold<'a>(records: &'a [u8], tasks: u8, cores: u8) -> Costs<'a>
         tasks,
         cores,
     }
+}
+
+// What handing out to copies costs, in ticks (document 02, M-106).
+pub fn hand_out_held<'a>(c: Costs<'a>) -> u32
+    ensures { λ r. ⌜ r ≡ handOutOf (now (c .entry .records)) ⌝ }
+{
+    hand_out_at(c.records)
 }
 
 // The memory need of a task, in KiB.
@@ -71,6 +79,12 @@ pub fn external_held<'a>(c: Costs<'a>, task: u8, s: u8, q: u8) -> u32
 }
 
 // ---- with plain parameters: whoever calls these needs no walk
+
+pub(crate) fn hand_out_of(records: &[u8], tasks: u8, cores: u8) -> u32
+    ensures { λ r. ⌜ r ≡ handOutOf (now (records .entry)) ⌝ }
+{
+    hand_out_held(hold(records, tasks, cores))
+}
 
 pub(crate) fn need_of(records: &[u8], tasks: u8, cores: u8, task: u8) -> u32
     ensures { λ r. ⌜ r ≡ needOf (now (records .entry)) (boardWith tasks cores) task ⌝ }

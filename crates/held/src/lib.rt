@@ -6,6 +6,7 @@ mod boards;
 mod held;
 
 pub use boards::execution;
+pub use boards::hand_out;
 pub use boards::internal;
 pub use boards::limit;
 pub use boards::need;
@@ -14,6 +15,7 @@ pub use boards::transfer;
 pub use held::Costs;
 pub use held::execution_held;
 pub use held::external_held;
+pub use held::hand_out_held;
 pub use held::hold;
 pub use held::internal_held;
 pub use held::limit_held;

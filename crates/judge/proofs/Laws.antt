@@ -50,7 +50,7 @@ module _ (s w : List ℕ) where
     λ p. ap (λ (f : Filled). f .refusal) (timing.time-passed s w p),
   )
 
-  pub block-time-most : blockTimeAnswer s w .count ≤ 23000000
+  pub block-time-most : blockTimeAnswer s w .count ≤ 23003060
   block-time-most = timing.time-most s w
 
   pub block-time-first : blockTimeAnswer s (take planBytes w) ≡ blockTimeAnswer s w

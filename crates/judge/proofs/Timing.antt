@@ -1,5 +1,5 @@
 -- The single-block time as a service (document 02, M-104): Judge's refusals, else the time of the plan that Judge passes, which is at most
--- 23,000,000 ticks. By what Judge passes. Assumes nothing.
+-- 23,003,060 ticks. By what Judge passes. Assumes nothing.
 use mathlib.Core.Path.{_≡_, refl, sym, ap, subst, _∙_}
 use mathlib.Core.List.{List}
 use mathlib.Core.Logic.{⊎-elim}
@@ -46,7 +46,7 @@ module _ (s w : List ℕ) where
     unfolding blockTimeAnswer
     time-given e read is = rw (← found, ← read, is) (simp (eq-eqb (a .number) 0 e))
 
-    pub time-small : {r : Reading} {x : ℕ} → a .number ≡ 0 → r ≡ readCosts s → x ≡ blockTime (chainOf s (r .board)) (modulesOf w (r .board .tasks)) → x ≤ 23000000
+    pub time-small : {r : Reading} {x : ℕ} → a .number ≡ 0 → r ≡ readCosts s → x ≡ blockTime (chainOf s (r .board)) (modulesOf w (r .board .tasks)) → x ≤ 23003060
     time-small e read is =
         let p = number-passes s w (rw (← found) e) in
         rw (is, read, plan-said p) (plan-block-time s (readCosts s .board) (accepted-costs s (p .readable .accepted)) (p .modules) (p .keeps))
@@ -73,7 +73,7 @@ module _ (s w : List ℕ) where
       (λ t. ap (λ (f : Filled). f .refusal) (time-refused refl (eqb-false (judged s w .number) 0 t)))
       (true-or-false (eqb (judged s w .number) 0))
 
-  pub time-most : blockTimeAnswer s w .count ≤ 23000000
+  pub time-most : blockTimeAnswer s w .count ≤ 23003060
   time-most = ⊎-elim
       (λ t. let e = eqb-true (judged s w .number) 0 t in
       omega (arith, ap (λ (f : Filled). f .count) (time-given refl e refl refl), time-small {a = judged s w} refl e refl refl))

@@ -4,7 +4,7 @@ use mathlib.Core.Path.{_≡_, refl, sym, ap, _∙_}
 use mathlib.Core.List.{List}
 use mathlib.Core.Bool.{Bool, true, false, cond, _&&_}
 use mathlib.Core.Logic.{⊎-elim}
-use Prim.Native.Nat.{ℕ, zero, suc, _+_, _-_, _*_, _≤_, _<_}
+use Prim.Native.Nat.{ℕ, zero, suc, _+_, _-_, _*_, _%_, _≤_, _<_}
 use native.Mathlib.Nat.{suc-mul, mul-le-mul-right}
 use native.Mathlib.Omega.{arith}
 use lib.ListN.{length, getD, take, drop}
@@ -17,10 +17,11 @@ use Rattle.records.specs.declared.Key.{Key}
 use Rattle.records.specs.Costs.{mostCores, mostValue, key, dueKey, countOf}
 use Rattle.records.specs.Format.{Bears, InRange, IsCosts}
 use Rattle.records.proofs.Cases.{true-or-false, and-true}
+use Rattle.records.proofs.Exact.{some-records}
 use Rattle.records.proofs.Listing.{key-at}
-use Rattle.lookups.specs.Lookups.{within, hasNext, cellOf, needOf, replicableOf, limitOf, executionOf, internalOf, pairPlace, pairOf, externalOf, RecordSays}
+use Rattle.lookups.specs.Lookups.{within, hasNext, cellOf, needOf, replicableOf, handOutOf, limitOf, executionOf, internalOf, pairPlace, pairOf, externalOf, RecordSays}
 use Rattle.lookups.proofs.Inside.{within-true, within-bounds, has-next-true, has-next-bounds}
-use Rattle.lookups.proofs.Places.{cellOf-lt, placeOf, place-of-due, due-task, due-execution, due-internal, due-external}
+use Rattle.lookups.proofs.Places.{cellOf-lt, placeOf, place-of-due, due-kind, due-task, due-execution, due-internal, due-external}
 
 -- a value where a test holds, else 0
 most-where : (t : Bool) (v most : ℕ) → (t ≡ true → v ≤ most) → cond t v 0 ≤ most
@@ -52,30 +53,52 @@ module _ (s : List ℕ) (b : Board) (c : IsCosts s b) where
   unfolding count
   right-at n d l u e = rw (key-at (b .tasks) (b .cores) (key 0 0 0 0) n l u ∙ e) at (c .right n l u)
 
-  -- two keys that one record bears have one place
-  one-place : (n : ℕ) (d e : Key) → Bears s n d → Bears s n e → place d ≡ place e
+  -- two keys that one record bears, not the first, have one place
+  one-place : (n : ℕ) (d e : Key) → (d .kind ≡ 1 → ⊥) → Bears s n d → Bears s n e → place d ≡ place e
   unfolding place placeOf
-  one-place n d e x y = ⊎-elim
-      (λ t. let two = eqb-true (d .kind) 2 t in simp (eq-eqb (d .kind) 2 two, eq-eqb (e .kind) 2 (sym (y .kind) ∙ x .kind ∙ two)) (sym (x .task) ∙ y .task))
+  one-place n d e later x y = ⊎-elim
+      (λ t. let two = eqb-true (d .kind) 2 t in simp (eq-eqb (d .kind) 2 two, eq-eqb (e .kind) 2 (sym (y .kind) ∙ x .kind ∙ two)) (sym (x .task later) ∙ y .task (differs 1 later)))
       (λ t. let other = eqb-false (d .kind) 2 t in
-      cc (sym (x .kind) ∙ y .kind, sym (x .task) ∙ y .task, sym (x .a other) ∙ y .a (differs other), sym (x .b other) ∙ y .b (differs other)))
+      cc (sym (x .kind) ∙ y .kind, sym (x .task later) ∙ y .task (differs 1 later), sym (x .a other) ∙ y .a (differs 2 other), sym (x .b other) ∙ y .b (differs 2 other)))
       (true-or-false (eqb (d .kind) 2))
     where
-      differs : (d .kind ≡ 2 → ⊥) → e .kind ≡ 2 → ⊥
-      differs other q = other (sym (x .kind) ∙ y .kind ∙ q)
+      differs : (i : ℕ) → (d .kind ≡ i → ⊥) → e .kind ≡ i → ⊥
+      differs i other q = other (sym (x .kind) ∙ y .kind ∙ q)
 
   place-of-bearer : (d : Key) → (d .kind ≡ 1 → ⊥) → (n : ℕ) → n < count → Bears s n d → n ≡ place d
   unfolding place count
   place-of-bearer d other zero u h = absurd (other (sym (h .kind) ∙ c .headed .kind))
   place-of-bearer d other (suc m) u h =
       let e = dueKey (b .tasks) (b .cores) (suc m) in
-      sym (one-place (suc m) d e h (right-at (suc m) e (omega arith) u refl .0) ∙ place-of-due (b .tasks) (b .cores) (suc m) (omega arith))
+      sym (one-place (suc m) d e other h (right-at (suc m) e (omega arith) u refl .0) ∙ place-of-due (b .tasks) (b .cores) (suc m) (omega arith))
 
   module _ {A : Type 0} (of : ℕ → A) (v : A) where
     says-at : (d : Key) (n : ℕ) → (d .kind ≡ 1 → ⊥) → place d ≡ n → 1 ≤ n → n < count → dueKey (b .tasks) (b .cores) n ≡ d → v ≡ of n → RecordSays s b d of v
     unfolding count
     says-at d n other q l u e w =
         record { place = n; there = u; bears = right-at n d l u e .0; alone = λ i h x. place-of-bearer d other i h x ∙ q; says = w }
+
+  -- ---- kind 1
+
+  -- the board's record is the first, and no other
+  first-bears : Bears s 0 (key 1 0 (b .cores) (b .tasks))
+  first-bears = record {
+    kind = c .headed .kind;
+    task = λ z. absurd (z refl);
+    a = λ z. ap (λ (x : Board). x .cores) (sym (c .board));
+    b = λ z. ap (λ (x : Board). x .tasks) (sym (c .board));
+  }
+
+  first-alone : (n : ℕ) → n < count → Bears s n (key 1 0 (b .cores) (b .tasks)) → n ≡ 0
+  unfolding count
+  first-alone zero u h = refl
+  first-alone (suc m) u h =
+      let e = dueKey (b .tasks) (b .cores) (suc m) in
+      absurd (omega (arith, due-kind (b .tasks) (b .cores) (suc m), sym (right-at (suc m) e (omega arith) u refl .0 .kind) ∙ h .kind))
+
+  pub hand-out-says : RecordSays s b (key 1 0 (b .cores) (b .tasks)) (λ n. byteAt s n 1 % 256) (handOutOf s)
+  unfolding handOutOf count
+  hand-out-says = record { place = 0; there = some-records (b .tasks) (b .cores); bears = first-bears; alone = first-alone; says = refl }
 
   -- ---- kind 2
 

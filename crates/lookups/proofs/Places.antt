@@ -1,13 +1,14 @@
 -- Where the key of a given kind, task, a and b stands among the due keys, and that it stands nowhere else: the place and the
 -- computed key are each other's inverse. By division with remainder. Assumes nothing.
 use mathlib.Core.Path.{_≡_, _∙_}
-use mathlib.Core.Bool.{cond}
+use mathlib.Core.Bool.{Bool, true, false, cond}
 use mathlib.Core.Logic.{⊎-elim}
 use Prim.Native.Nat.{ℕ, suc, _+_, _-_, _*_, _/_, _%_, _≤_, _<_}
 use native.Mathlib.Nat.{suc-mul, mul-le-mul-right, div-eq-of-lt, mod-eq-of-lt, mul-add-div-right, mul-add-mod-self-right, div-add-mod'}
 use native.Mathlib.Omega.{arith}
-use lib.Dec.{eqb}
+use lib.Dec.{ltb, eqb}
 use borrow.Author.Tests.{lt-ltb, le-ltb}
+use Rattle.records.specs.declared.Key.{Key}
 use Rattle.records.specs.Costs.{key, dueKey}
 use Rattle.records.proofs.Cases.{lt-or-le}
 use Rattle.lookups.specs.Lookups.{cellOf, pairPlace}
@@ -85,6 +86,22 @@ module _ (k p : ℕ) where
       last a b c =
           let r : x / (p * p) + 1 - 1 ≡ x / (p * p) = omega arith in
           rw r (omega (arith, div-add-mod' x (p * p)))
+
+  -- after the first record none is of kind 1
+  pub due-kind : (n : ℕ) → 2 ≤ dueKey k p n .kind
+  unfolding dueKey
+  due-kind n =
+      let e = n - 1 - k in
+      let t = e - k * p in
+      let x = t - (k - 1) * p in
+      later (ltb (n - 1) k) (ltb e (k * p)) (ltb t ((k - 1) * p)) (key 2 n 0 0) (key 3 (e / p + 1) (e % p + 1) 0) (key 4 (t / p + 1) (t % p + 1) 0)
+      (key 5 (x / (p * p) + 1) (x % (p * p) / p + 1) (x % (p * p) % p + 1)) (omega arith) (omega arith) (omega arith) (omega arith)
+    where
+      later : (x y z : Bool) (a b c d : Key) → 2 ≤ a .kind → 2 ≤ b .kind → 2 ≤ c .kind → 2 ≤ d .kind → 2 ≤ cond x a (cond y b (cond z c d)) .kind
+      later true y z a b c d e f g h = e
+      later false true z a b c d e f g h = f
+      later false false true a b c d e f g h = g
+      later false false false a b c d e f g h = h
 
   module _ (t : ℕ) (first : 1 ≤ t) where
     pub due-task : t ≤ k → dueKey k p t ≡ key 2 t 0 0

@@ -1,6 +1,6 @@
 -- Lookups in cost records (document 01, "Cost records"): what each is, for any numbers and any list, and what the record with a key
 -- says. Records are counted from 0. Assumes nothing.
-use Prim.Native.Nat.{ℕ, _+_, _-_, _*_, _<_}
+use Prim.Native.Nat.{ℕ, _+_, _-_, _*_, _%_, _<_}
 use mathlib.Core.Path.{_≡_}
 use mathlib.Core.List.{List, []}
 use mathlib.Core.Bool.{Bool, cond, _&&_}
@@ -27,6 +27,11 @@ cellOf width i j = (i - 1) * width + (j - 1)
 -- a board of which only the tasks and the cores count: no lookup reads the capacity
 abbrev pub boardWith : ℕ → ℕ → Board
 boardWith k p = record { tasks = k; cores = p; capacity = 0 }
+
+-- M-106: D, what handing out to copies costs: the task byte of the first record. A byte is below 256, and its own remainder; of a list of
+-- other numbers the remainder makes it so
+unfoldable pub handOutOf : List ℕ → ℕ
+handOutOf s = byteAt s 0 1 % 256
 
 -- the memory need of task t; 0 where there is no such task
 unfoldable pub needOf : List ℕ → Board → ℕ → ℕ

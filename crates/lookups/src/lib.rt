@@ -7,6 +7,7 @@ mod lookup;
 pub use lookup::execution_at;
 pub use lookup::external;
 pub use lookup::external_at;
+pub use lookup::hand_out_at;
 pub use lookup::internal_at;
 pub use lookup::limit_at;
 pub use lookup::need_at;

@@ -2,7 +2,7 @@
 // or an empty part. On accepted costs each is the value of the record that bears the key.
 ghost use mathlib.Core.Path.{_≡_};
 ghost use Prim.Native.Nat.{_≤_, _<_};
-ghost use Rattle.lookups.specs.Lookups.{within, hasNext, needOf, replicableOf, limitOf, cellOf, executionOf, internalOf, pairPlace, pairOf, externalOf, boardWith};
+ghost use Rattle.lookups.specs.Lookups.{within, hasNext, handOutOf, needOf, replicableOf, limitOf, cellOf, executionOf, internalOf, pairPlace, pairOf, externalOf, boardWith};
 use fields::byte_at;
 use fields::value_at;
 use fields::wide;
@@ -72,6 +72,13 @@ pub fn external(part: &[u8], cores: u8, s: u8, q: u8) -> u32
         }
     }
     0
+}
+
+// What handing out to copies costs, D of 0 to 255 (document 02, M-106).
+pub fn hand_out_at(costs: &[u8]) -> u32
+    ensures { λ r. ⌜ r ≡ handOutOf (now (costs .entry)) ⌝ }
+{
+    byte_at(costs, 0, 1)
 }
 
 // The memory need of a task of a chain of k.

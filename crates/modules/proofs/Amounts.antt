@@ -3,13 +3,13 @@
 use mathlib.Core.Path.{_≡_, refl, ap}
 use mathlib.Core.Bool.{Bool, true, false, cond, _||_}
 use mathlib.Core.Logic.{⊎-elim}
-use Prim.Native.Nat.{ℕ, zero, suc, _+_, _-_, _*_, _≤_}
+use Prim.Native.Nat.{ℕ, zero, suc, _+_, _-_, _*_, _≤_, _<_}
 use native.Mathlib.Nat.{suc-mul, mul-le-mul-right}
 use native.Mathlib.Omega.{arith}
 use lib.Dec.{leb, eqb}
-use borrow.Author.Tests.{eq-eqb, eqb-true}
+use borrow.Author.Tests.{eq-eqb, eqb-true, lt-ltb, le-ltb}
 use Rattle.records.proofs.Cases.{lt-or-le, or-unless, or-right}
-use Rattle.modules.specs.Model.{Chain, run, gather, nothing, body, transfer, response, passage}
+use Rattle.modules.specs.Model.{Chain, run, gather, nothing, body, transfer, handed, response, passage}
 use Rattle.modules.specs.Rules.{mark, copiesAllowed}
 use Rattle.modules.proofs.Sums.{gather-some, gather-none}
 
@@ -114,8 +114,8 @@ response-drop-first c s first last from r p q h = omega (arith, body-drop c firs
 
 -- ---- M-104: what a module adds to the single-block time
 
--- its body and what it sends
-pub passage-parts : (c : Chain) (first last r p q : ℕ) → passage c first last r p q ≡ body c first last p + transfer c last p q
+-- its body, what it sends and what handing out costs (M-106)
+pub passage-parts : (c : Chain) (first last r p q : ℕ) → passage c first last r p q ≡ body c first last p + transfer c last p q + handed c r
 unfolding passage
 passage-parts c first last r p q = refl
 
@@ -123,6 +123,44 @@ passage-parts c first last r p q = refl
 pub response-passage : (c : Chain) (s first last r p q : ℕ) → response c s first last r p q ≡ transfer c (first - 1) s p + passage c first last r p q
 unfolding response passage
 response-passage c s first last r p q = omega arith
+
+-- ---- M-106: handing out to copies
+
+module _ (c : Chain) (r : ℕ) where
+  pub handed-none : r ≤ 1 → handed c r ≡ 0
+  unfolding handed
+  handed-none h = simp (le-ltb 1 r h)
+
+  pub handed-some : 1 < r → handed c r ≡ c .handOut
+  unfolding handed
+  handed-some h = simp (lt-ltb 1 r h)
+
+  pub handed-most : handed c r ≤ c .handOut
+  handed-most = ⊎-elim (λ h. omega (arith, handed-some h)) (λ h. omega (arith, handed-none h)) (lt-or-le 1 r)
+
+-- more copies cost no less
+pub handed-rises : (c : Chain) (r r′ : ℕ) → r ≤ r′ → handed c r ≤ handed c r′
+handed-rises c r r′ h = ⊎-elim
+    (λ l. omega (arith, handed-some c r l, handed-some c r′ (omega arith)))
+    (λ l. omega (arith, handed-none c r l))
+    (lt-or-le 1 r)
+
+-- D enters the response as it stands, before anything is divided by r
+pub response-copies : (c : Chain) (s first last r p q : ℕ) → response c s first last r p q ≡ response c s first last 1 p q + handed c r
+unfolding response
+response-copies c s first last r p q = omega (arith, handed-none c 1 (omega arith))
+
+pub passage-copies : (c : Chain) (first last r p q : ℕ) → passage c first last r p q ≡ passage c first last 1 p q + handed c r
+unfolding passage
+passage-copies c first last r p q = omega (arith, handed-none c 1 (omega arith))
+
+-- where D is 0 copies don't enter
+module _ (c : Chain) (first last r p q : ℕ) (free : c .handOut ≡ 0) where
+  pub response-free : (s : ℕ) → response c s first last r p q ≡ response c s first last 1 p q
+  response-free s = omega (arith, response-copies c s first last r p q, handed-most c r)
+
+  pub passage-free : passage c first last r p q ≡ passage c first last 1 p q
+  passage-free = omega (arith, passage-copies c first last r p q, handed-most c r)
 
 -- ---- the most that a response can be
 
@@ -145,9 +183,9 @@ module _ (c : Chain) (most : ℕ) (b : CostsMost c most) where
   unfolding body
   body-most first last p = gather-most (λ t. c .execution t p) (λ t. c .internal t p) most (λ t. b .execution t p) (λ t. b .internal t p) first last
 
-  -- 2k - 1 values, since a module of all tasks neither receives nor sends
+  -- 2k - 1 values, since a module of all tasks neither receives nor sends, and what handing out costs
   pub response-most : (k s first last r p q : ℕ) → 1 ≤ first → first ≤ last → last ≤ k → (first ≡ 1 → s ≡ 0) → (last ≡ k → q ≡ 0)
-      → response c s first last r p q ≤ (2 * k - 1) * most
+      → response c s first last r p q ≤ (2 * k - 1) * most + handed c r
   unfolding response
   response-most k s first last r p q h i j x y = ⊎-elim
       (λ l. ⊎-elim

@@ -1,4 +1,4 @@
--- What holds of modules (document 01, "The chain and the board"; document 02, M-100 and M-102 to M-104): the laws that a reader looks for, and
+-- What holds of modules (document 01, "The chain and the board"; document 02, M-100, M-102 to M-104 and M-106): the laws that a reader looks for, and
 -- that the layers above cite. The definitions are in specs/. Assumes nothing.
 use mathlib.Core.Path.{_≡_}
 use mathlib.Core.Bool.{true, false, _&&_}
@@ -8,7 +8,7 @@ use Prim.Native.Nat.{ℕ, _+_, _-_, _*_, _≤_, _<_}
 use Rattle.records.specs.declared.Board.{Board}
 use Rattle.records.specs.declared.Filled.{Filled}
 use Rattle.records.specs.Format.{IsCosts}
-use Rattle.modules.specs.Model.{Chain, chainOf, body, transfer, response, passage}
+use Rattle.modules.specs.Model.{Chain, chainOf, body, transfer, handed, response, passage}
 use Rattle.modules.specs.Rules.{share, shares, memoryFits, copiesAllowed, moduleLimit, withinLimit, moduleRules, stillKept, fewestCores}
 use Rattle.modules.specs.Reach.{reach, reachAnswer}
 use Rattle.modules.specs.Claims.{needing, IsFewest, IsLimit, IsReach, NoReach, SomeHold, Reaches}
@@ -64,14 +64,47 @@ module _ (c : Chain) (first last : ℕ) where
   pub shares-more : (p : ℕ) → 1 ≤ first → first ≤ last → shares c first last p ≡ shares c first (last - 1) p + share c last p
   shares-more = sharing.shares-more c first last
 
--- ---- M-104: what a module adds to the single-block time is its body and what it sends; with what it receives, its response
+-- ---- M-104: what a module adds to the single-block time is its body, what it sends and what handing out to its copies costs (M-106); with
+-- what it receives, its response
 
 module _ (c : Chain) (first last r p q : ℕ) where
-  pub passage-parts : passage c first last r p q ≡ body c first last p + transfer c last p q
+  pub passage-parts : passage c first last r p q ≡ body c first last p + transfer c last p q + handed c r
   passage-parts = amounts.passage-parts c first last r p q
 
   pub response-passage : (s : ℕ) → response c s first last r p q ≡ transfer c (first - 1) s p + passage c first last r p q
   response-passage s = amounts.response-passage c s first last r p q
+
+-- ---- M-106: handing out to copies costs time
+
+module _ (c : Chain) where
+  -- D "if its r is above 1", and only then
+  pub handed-some : (r : ℕ) → 1 < r → handed c r ≡ c .handOut
+  handed-some = amounts.handed-some c
+
+  pub handed-none : (r : ℕ) → r ≤ 1 → handed c r ≡ 0
+  handed-none = amounts.handed-none c
+
+  -- it never falls with more copies, and is never above D
+  pub handed-rises : (r r′ : ℕ) → r ≤ r′ → handed c r ≤ handed c r′
+  handed-rises = amounts.handed-rises c
+
+  pub handed-most : (r : ℕ) → handed c r ≤ c .handOut
+  handed-most = amounts.handed-most c
+
+module _ (c : Chain) (first last r p q : ℕ) where
+  -- "a module's response rises by D", whatever stands before and after it, and so does what it adds to the single-block time
+  pub response-copies : (s : ℕ) → response c s first last r p q ≡ response c s first last 1 p q + handed c r
+  response-copies s = amounts.response-copies c s first last r p q
+
+  pub passage-copies : passage c first last r p q ≡ passage c first last 1 p q + handed c r
+  passage-copies = amounts.passage-copies c first last r p q
+
+  -- where D is 0 neither depends on r: every figure is the one that it was
+  pub response-free : c .handOut ≡ 0 → (s : ℕ) → response c s first last r p q ≡ response c s first last 1 p q
+  response-free = amounts.response-free c first last r p q
+
+  pub passage-free : c .handOut ≡ 0 → passage c first last r p q ≡ passage c first last 1 p q
+  passage-free = amounts.passage-free c first last r p q
 
 -- ---- M-100: a module's limit is the least of its tasks' limits, those without one left aside
 

@@ -1,18 +1,19 @@
--- A module in the chain model (document 01, "The chain and the board"; document 02, M-104; source document 000, 2.1 and 2.2), over a
--- chain's cost functions. Tasks are numbered from 1. 0 cores stand for "no module" before the first or after the last one. Assumes nothing.
+-- A module in the chain model (document 01, "The chain and the board"; document 02, M-104 and M-106; source document 000, 2.1 and 2.2), over
+-- a chain's cost functions. Tasks are numbered from 1. 0 cores stand for "no module" before the first or after the last one. Assumes nothing.
 use Prim.Native.Nat.{ℕ, zero, suc, _+_, _-_}
 use mathlib.Core.List.{List}
 use mathlib.Core.Bool.{Bool, cond, _||_}
 use lib.Dec.{ltb, eqb}
 use Rattle.records.specs.declared.Board.{Board}
-use Rattle.lookups.specs.Lookups.{needOf, replicableOf, limitOf, executionOf, internalOf, pairOf, externalOf}
+use Rattle.lookups.specs.Lookups.{handOutOf, needOf, replicableOf, limitOf, executionOf, internalOf, pairOf, externalOf}
 
--- k tasks, a board of P cores of that capacity, and what each task needs, allows and takes; each function is 0 out of range, and a
--- limit of 0 is none (M-100)
+-- k tasks, a board of P cores of that capacity that needs D ticks to hand out to copies (M-106), and what each task needs, allows and
+-- takes; each function is 0 out of range, and a limit of 0 is none (M-100)
 pub record Chain : Type 0 where
   pub tasks : ℕ
   pub board : ℕ
   pub capacity : ℕ
+  pub handOut : ℕ
   pub need : (t : ℕ) → ℕ
   pub replicable : (t : ℕ) → Bool
   pub limit : (t : ℕ) → ℕ
@@ -26,6 +27,7 @@ chainOf s b = record {
   tasks = b .tasks;
   board = b .cores;
   capacity = b .capacity;
+  handOut = handOutOf s;
   need = needOf s b;
   replicable = replicableOf s b;
   limit = limitOf s b;
@@ -58,12 +60,16 @@ body c first last p = gather (λ t. c .execution t p) (λ t. c .internal t p) fi
 unfoldable pub transfer : Chain → (t s q : ℕ) → ℕ
 transfer c t s q = cond (eqb s 0 || eqb q 0) 0 (c .external t s q)
 
+-- M-106: what handing out to r copies costs, "D if its r is above 1"
+unfoldable pub handed : Chain → (r : ℕ) → ℕ
+handed c r = cond (ltb 1 r) (c .handOut) 0
+
 -- the response of a module of r copies of p cores, between one of s cores and one of q: what it receives, its body and
--- what it sends, each transfer counted at both its ends; copies don't enter it
+-- what it sends, each transfer counted at both its ends, and what handing out to its copies costs (M-106)
 unfoldable pub response : Chain → (s first last r p q : ℕ) → ℕ
-response c s first last r p q = transfer c (first - 1) s p + body c first last p + transfer c last p q
+response c s first last r p q = transfer c (first - 1) s p + body c first last p + transfer c last p q + handed c r
 
 -- M-104: what a module adds to the single-block time of a plan: its body and what it sends, so that each transfer is counted once, at
--- its sender; copies don't enter it
+-- its sender; and by M-106 what handing out to its copies costs
 unfoldable pub passage : Chain → (first last r p q : ℕ) → ℕ
-passage c first last r p q = body c first last p + transfer c last p q
+passage c first last r p q = body c first last p + transfer c last p q + handed c r

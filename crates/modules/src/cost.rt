@@ -1,8 +1,8 @@
-// Sums over a module's tasks, from first to last; 0 where last is below first. Whatever the bytes are, 255 tasks of 32-bit
-// values cannot overflow 64 bits.
+// Sums over a module's tasks, from first to last, 0 where last is below first, and what is made of them. Whatever the bytes are, 255
+// tasks of 32-bit values cannot overflow 64 bits.
 ghost use mathlib.Core.Path.{_≡_};
 ghost use Prim.Native.Nat.{_<_};
-ghost use Rattle.modules.specs.Model.{chainOf, gather, nothing, body as bodyOf, transfer as transferOf, response as responseTo, passage as passageOf};
+ghost use Rattle.modules.specs.Model.{chainOf, gather, nothing, body as bodyOf, transfer as transferOf, handed as handedTo, response as responseTo, passage as passageOf};
 ghost use Rattle.modules.specs.Rules.{mark, share as shareOf, shares as sharesOf};
 use crate::Module;
 use records::Board;
@@ -83,13 +83,25 @@ pub fn transfer(costs: &[u8], board: Board, t: u8, s: u8, q: u8) -> u32
     held::transfer(costs, board, t, s, q)
 }
 
-// What the module m adds to the single-block time of a plan (document 02, M-104): its body, and what it sends to a module of q cores, 0
-// for none.
+// What handing out to r copies costs (document 02, M-106): D if r is above 1.
+pub fn handed(costs: &[u8], board: Board, r: u8) -> u32
+    ensures { λ x. ⌜ x ≡ handedTo (chainOf (now (costs .entry)) board) r ⌝ }
+{
+    if 1 < r {
+        held::hand_out(costs, board)
+    } else {
+        0
+    }
+}
+
+// What the module m adds to the single-block time of a plan (document 02, M-104): its body, what it sends to a module of q cores, 0 for
+// none, and what handing out to its copies costs.
 pub fn passage(costs: &[u8], board: Board, m: Module, q: u8) -> u64
-    ensures { λ r. ⌜ (r ≡ passageOf (chainOf (now (costs .entry)) board) (m .first) (m .last) (m .copies) (m .cores) q) × (r < 4402341478400) ⌝ }
+    ensures { λ r. ⌜ (r ≡ passageOf (chainOf (now (costs .entry)) board) (m .first) (m .last) (m .copies) (m .cores) q) × (r < 4406636445696) ⌝ }
 {
     let sent = transfer(costs, board, m.last, m.cores, q) as u64;
-    body(costs, board, m.first, m.last, m.cores) + sent
+    let out = handed(costs, board, m.copies) as u64;
+    body(costs, board, m.first, m.last, m.cores) + sent + out
 }
 
 // The response of the module m between one of s cores and one of q, 0 for none.

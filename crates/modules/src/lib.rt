@@ -1,4 +1,4 @@
-// A module of a plan (document 01, "The chain and the board"; document 02, M-100 and M-102 to M-104; source document 000, 2.1 and 2.2): what it
+// A module of a plan (document 01, "The chain and the board"; document 02, M-100, M-102 to M-104 and M-106; source document 000, 2.1 and 2.2): what it
 // costs, which rules it keeps and how far it can go.
 //
 // Whatever lies above takes every cost and test of a module from here. No public function has a `requires`: each answers for all
@@ -8,6 +8,7 @@ mod reaching;
 mod rules;
 
 pub use cost::body;
+pub use cost::handed;
 pub use cost::passage;
 pub use cost::response_of;
 pub use cost::share;

@@ -2,20 +2,20 @@
 -- one division, and last tasks past the first at which a module of one copy breaks a rule, or past its reach, add nothing. By the
 -- search's laws at the problem of a chain. Assumes nothing.
 use mathlib.Core.Path.{_≡_, refl, sym, _∙_, ap}
-use mathlib.Core.Bool.{Bool, true, false, _&&_, _||_, and-true, or-comm}
+use mathlib.Core.Bool.{Bool, true, false, cond, _&&_, _||_}
 use mathlib.Core.List.{List}
 use mathlib.Core.Logic.{⊎-elim}
 use Prim.Native.Nat.{ℕ, suc, _+_, _-_, _*_, _≤_, _<_}
-use native.Mathlib.Nat.{le-refl, le-antisymm, mul-le-mul}
+use native.Mathlib.Nat.{le-refl, mul-le-mul}
 use native.Mathlib.Omega.{arith}
 use lib.ListN.{length, set, length-set}
-use lib.Dec.{T, leb, leb→le, le→leb, not-T}
+use lib.Dec.{T, ltb, leb, leb→le, le→leb, not-T}
 use Rattle.records.specs.declared.Board.{Board}
 use Rattle.records.proofs.Cases.{lt-or-le, true-not-false, false-unless}
-use Rattle.modules.specs.Model.{Chain, response, transfer, body}
+use Rattle.modules.specs.Model.{Chain, response, transfer, handed, body}
 use Rattle.modules.specs.Rules.{share, shares, moduleRules, stillKept, copiesAllowed}
 use Rattle.modules.specs.Reach.{reach}
-use Rattle.modules.proofs.Laws.{passage-parts, response-passage, shares-more, rules-drop, rules-apart, rules-longer, rules-reach}
+use Rattle.modules.proofs.Laws.{passage-parts, response-passage, handed-none, handed-rises, shares-more, rules-drop, rules-apart, rules-longer, rules-reach}
 use Rattle.search.specs.Least.{pick, lesser, least}
 use Rattle.search.specs.Copies.{loadOf, fewest}
 use Rattle.search.specs.Plan.{cap}
@@ -23,7 +23,7 @@ use Rattle.search.specs.Weight.{Table, overCopies, overNext, overLast}
 use Rattle.search.specs.Best.{fitsAt}
 use Rattle.search.specs.Flat.{cells, readTable}
 use Rattle.search.proofs.Tests.{and-l, and-r, and-i}
-use Rattle.search.proofs.Least.{pick-yes, pick-no, pick-ge, pick-le, least-cap, least-none, least-stop}
+use Rattle.search.proofs.Least.{pick-yes, pick-no, least-cap, least-none, least-stop}
 use Rattle.search.proofs.Flat.{small-set}
 use Rattle.search.proofs.Loops.{overCopies-none}
 use Rattle.search.proofs.Copies.{fewest-enough}
@@ -32,6 +32,7 @@ use Rattle.search.proofs.Tiers.{tiered-rises}
 use Rattle.planners.specs.Search.{grain, unit, ticks, price, problem, ofSize, noPlan, topThreshold, Sized, Holds, Reached, Loaded}
 use Rattle.planners.proofs.Instance.{problem-tiered}
 use Rattle.planners.proofs.Fitting.{reached-inside}
+use Rattle.planners.proofs.Copies.{copies-allow, copies-load}
 
 -- ---- the size of the board
 
@@ -69,69 +70,82 @@ holds-set {b} {w} h i v l g = record {
 
 -- ---- one module in its place
 
--- what it receives, its body and what it sends
-pub response-parts : (c : Chain) (s t l r p q : ℕ) → response c s (t + 1) l r p q ≡ transfer c t s p + body c (t + 1) l p + transfer c l p q
+-- what it receives, its body, what it sends and what handing out costs (M-106)
+pub response-parts : (c : Chain) (s t l r p q : ℕ)
+    → response c s (t + 1) l r p q ≡ transfer c t s p + body c (t + 1) l p + transfer c l p q + handed c r
 response-parts c s t l r p q =
     let e : transfer c (t + 1 - 1) s p ≡ transfer c t s p = ap (λ (i : ℕ). transfer c i s p) (omega arith) in
     omega (arith, response-passage c (t + 1) l r p q s, passage-parts c (t + 1) l r p q)
 
--- where it keeps the rules in one copy, only its copies are left to ask for
-pub one-rules : (c : Chain) (first last r p : ℕ) → moduleRules c first last 1 p ≡ true → moduleRules c first last r p ≡ copiesAllowed c first last r
-one-rules c first last r p e = rules-apart c first last r p ∙ rw (e, and-true)
-
 -- what is known of it once it is summed up and two copies are asked for
-pub loaded : {c : Chain} {s t q l received stay : ℕ} {rep : Bool} → Reached c t l → moduleRules c (t + 1) l 1 q ≡ true → received ≡ transfer c t s q
-    → received < 4294967296 → (stay ≡ body c (t + 1) l q) × (stay < 4398046511104) → rep ≡ copiesAllowed c (t + 1) l 2 → Loaded c s t q l (received + stay) stay rep
-loaded reached keeps comes low body copies = record {
+pub loaded : {c : Chain} {s t q l received stay out : ℕ} {rep : Bool} → Reached c t l → moduleRules c (t + 1) l 1 q ≡ true → received ≡ transfer c t s q
+    → received < 4294967296 → (stay ≡ body c (t + 1) l q) × (stay < 4398046511104) → out ≡ handed c 2 → out < 4294967296 → rep ≡ copiesAllowed c (t + 1) l 2
+    → Loaded c s t q l (received + stay) stay out rep
+loaded reached keeps comes low body out little copies = record {
   reached = reached;
   keeps = keeps;
   taken = omega (arith, comes);
   stays = body .0;
   low = omega (arith, body .1);
+  handing = out;
+  little = little;
   replicable = copies;
 }
 
--- ---- over the copies: r are the fewest that are enough, and their load is the same for each number of copies
+-- ---- over the copies: r are the fewest that are enough; the load is one of a single copy, and one of each of several, which carries what
+-- handing out costs (M-106)
 
-module _ {c : Chain} {s t q l base stay : ℕ} {rep : Bool} (h : Loaded c s t q l base stay rep) (n q′ : ℕ) {sent r : ℕ} (is-sent : sent ≡ transfer c l q q′)
-    (is-fewest : r ≡ fewest rep ((base + sent) * grain) ((base + sent) * grain) n) (some : 1 ≤ q) where
-  -- its load
+module _ {c : Chain} {s t q l base stay out : ℕ} {rep : Bool} (h : Loaded c s t q l base stay out rep) (n q′ : ℕ) {sent r : ℕ} (is-sent : sent ≡ transfer c l q q′)
+    (is-fewest : r ≡ fewest rep ((base + sent) * grain) ((base + sent) * grain + out * grain) n) (some : 1 ≤ q) where
+  -- its load in one copy, and in several
   abbrev load : ℕ
   load = (base + sent) * grain
 
-  allows : (i : ℕ) → moduleRules c (t + 1) l i q ≡ (true && (rep || leb i 1))
-  unfolding copiesAllowed
-  allows i = one-rules c (t + 1) l i q (h .keeps) ∙ rw (h .replicable) (or-comm (leb i 1) _)
+  abbrev several : ℕ
+  several = load + out * grain
 
-  loads : (i : ℕ) → response c s (t + 1) l i q q′ * grain ≡ loadOf load load i
+  rises : load ≤ several
+  rises = omega arith
+
+  allows : (i : ℕ) → moduleRules c (t + 1) l i q ≡ (true && (rep || leb i 1))
+  allows i = copies-allow c s t l q q′ i ∙ rw (h .keeps, h .replicable)
+
+  loads : (i : ℕ) → response c s (t + 1) l i q q′ * grain ≡ loadOf load several i
   loads i =
-      let e : response c s (t + 1) l i q q′ ≡ base + sent = omega (arith, response-parts c s t l i q q′, h .taken, h .stays, is-sent) in
-      rw e (le-antisymm (pick-ge (leb i 1) load load load (λ _. le-refl load) (le-refl load)) (pick-le (leb i 1) load load load (le-refl load) (le-refl load)))
+      let one : response c s (t + 1) l 1 q q′ * grain ≡ load = omega (arith, response-parts c s t l 1 q q′, handed-none c 1 (omega arith), h .taken, h .stays, is-sent) in
+      let two : response c s (t + 1) l 2 q q′ * grain ≡ several = omega (arith, response-parts c s t l 2 q q′, h .taken, h .stays, h .handing, is-sent) in
+      copies-load c s t l q q′ i ∙ rw (one, two)
+
+  -- what they pay of the cost of handing out
+  pub pays : cond (ltb 1 r) out 0 ≡ handed c r
+  unfolding handed
+  pays = rw (h .handing)
 
   -- what r copies weigh
   abbrev pub weighs : ℕ
-  weighs = unit * (r * q) + (stay + sent)
+  weighs = unit * (r * q) + (stay + sent + cond (ltb 1 r) out 0)
 
   priced : price c t l r q q′ ≡ weighs
-  priced = omega (arith, passage-parts c (t + 1) l r q q′, h .stays, is-sent)
+  priced = omega (arith, passage-parts c (t + 1) l r q q′, h .stays, pays, is-sent)
 
   -- M-104: where there are copies, on a board of at most 32 cores and at a threshold in range, what they weigh with any rest that the table
   -- holds is below 2³²
   pub weighs-few : 1 ≤ r → s + r * q + q′ ≤ c .board → c .board ≤ 32 → n ≤ topThreshold → (v : ℕ) → v ≤ noPlan (c .board) → weighs + v < 4294967296
   weighs-few a room few within v low =
       let cores = mul-le-mul {n₁ = r} {m₁ = 1} {n₂ = r} {m₂ = q} (le-refl r) some in
-      let d = fewest-enough rep load load n (le-refl load) (rw is-fewest at a) in
-      let e = leb→le (loadOf load load r) (n * r) (rw (← is-fewest) at (and-r (rep || leb (fewest rep load load n) 1) (leb (loadOf load load (fewest rep load load n)) (n * fewest rep load load n)) d)) in
-      let f = pick-ge (leb r 1) load load load (λ _. le-refl load) (le-refl load) in
-      omega (arith, h .taken, mul-le-mul {n₁ = n} {m₁ = r} {n₂ = topThreshold} {m₂ = 32} within (omega arith))
+      let least = fewest rep load several n in
+      let d = fewest-enough rep load several n rises (rw is-fewest at a) in
+      let e = leb→le (loadOf load several r) (n * r) (rw (← is-fewest) at (and-r (rep || leb least 1) (leb (loadOf load several least) (n * least)) d)) in
+      omega (arith, h .taken, h .stays, is-sent, pays, loads r, response-parts c s t l r q q′, mul-le-mul {n₁ = n} {m₁ = r} {n₂ = topThreshold} {m₂ = 32} within (omega arith))
 
   module _ (rest : Table) where
     cheapest : overCopies (problem c) (fitsAt (problem c) n) rest s t q l q′
         ≡ pick (leb 1 r && leb (s + r * q + q′) (c .board)) (lesser (noPlan (c .board)) (weighs + rest q l q′)) (noPlan (c .board))
     cheapest =
         rw (← (chain-cap c), ← priced, is-fewest)
-        (overCopies-at (problem c) n s t q l q′ true rep load load allows loads (h .reached .later) (reached-inside (h .reached)) some (le-refl load) rest
-        (λ i j. tiered-rises (problem c) (ticks c) (problem-tiered c) s t l i j q q′ (omega (arith, passage-parts c (t + 1) l i q q′, passage-parts c (t + 1) l j q q′))))
+        (overCopies-at (problem c) n s t q l q′ true rep load several allows loads (h .reached .later) (reached-inside (h .reached)) some rises rest
+        (λ i j m. tiered-rises (problem c) (ticks c) (problem-tiered c) s t l i j q q′
+        (omega (arith, passage-parts c (t + 1) l i q q′, passage-parts c (t + 1) l j q q′, handed-rises c i j m)) m))
 
     -- no number of copies is enough, or there is no room for the fewest
     pub copies-none : (1 ≤ r → s + r * q + q′ ≤ c .board → ⊥) → noPlan (c .board) ≡ overCopies (problem c) (fitsAt (problem c) n) rest s t q l q′

@@ -1,5 +1,6 @@
 pub mod Cells
 pub mod Coming
+pub mod Copies
 pub mod Fitting
 pub mod Instance
 pub mod Laying

@@ -5,12 +5,10 @@ use mathlib.Core.Bool.{true}
 use mathlib.Core.List.{List, [], _∷_, List·Memᴰ, List·Memᴰ·head, List·Memᴰ·tail}
 use mathlib.Core.Logic.{inl, inr}
 use mathlib.Core.Option.{none, some}
-use Prim.Native.Nat.{ℕ, _+_, _-_, _*_, _≤_}
-use native.Mathlib.Nat.{mul-le-mul-right}
+use Prim.Native.Nat.{ℕ, _+_, _*_, _≤_}
 use native.Mathlib.Omega.{arith}
 use lib.Dec.{T}
 use Rattle.records.specs.declared.Board.{Board}
-use Rattle.records.specs.Costs.{mostValue}
 use Rattle.records.specs.Format.{IsCosts}
 use Rattle.modules.specs.declared.Module.{Module}
 use Rattle.modules.specs.Model.{Chain, chainOf}
@@ -18,8 +16,7 @@ use Rattle.figures.specs.declared.Slowest.{Slowest}
 use Rattle.figures.specs.Model.{headCores, responseOf, bottleneck}
 use Rattle.figures.specs.Rules.{keepsRules}
 use Rattle.figures.specs.Claims.{loads}
-use Rattle.figures.proofs.Bounds.{loads-most, costs-most}
-use Rattle.figures.proofs.Laws.{plan-block-time}
+use Rattle.figures.proofs.Laws.{plan-responses, plan-block-time}
 use Rattle.search.specs.Plan.{valid}
 use Rattle.search.specs.Bottleneck as abstract
 use Rattle.search.specs.Bottleneck.{rules, Keeps, planBottleneck}
@@ -34,7 +31,7 @@ use Rattle.search.proofs.Outcome.{answer-best}
 use Rattle.planners.specs.Search.{grain, problem, topThreshold}
 use Rattle.planners.specs.Best.{isBetter, bestPlan}
 use Rattle.planners.specs.Claims.{ComesFirst}
-use Rattle.planners.proofs.Instance.{problem-small, valid-covers, keeps-rules, rules-keeps, less-same, more-same}
+use Rattle.planners.proofs.Instance.{problem-small, keeps-rules, rules-keeps, less-same, more-same}
 use Rattle.planners.proofs.Weighing.{Quick, problem-laws, matched, weight-order, better-decides, best-searched}
 
 -- where no load of a plan is above most, the search's numerator is not
@@ -52,20 +49,13 @@ module _ (s : List ℕ) (b : Board) (costs : IsCosts s b) where
   c : Chain
   c = chainOf s b
 
-  -- no plan's single-block time is above 23,000,000 ticks, and a core weighs more (M-104)
+  -- no plan's single-block time is above 23,003,060 ticks, and a core weighs more (M-104, M-106)
   pub quick : Quick (chainOf s b)
   quick = record { time = λ ms k. omega (arith, plan-block-time s b costs ms k) }
 
   pub below-top : (ms : List Module) → Keeps (problem (chainOf s b)) ms → planBottleneck (problem (chainOf s b)) ms .num * grain ≤ topThreshold
   unfolding c
-  below-top ms h =
-      let k = c .tasks in
-      omega (
-        arith,
-        numerator-most c ((2 * k - 1) * mostValue) 0 0 1 ms (h .0)
-            (loads-most c mostValue (costs-most s b costs) k 1 ms 0 1 (valid-covers c 0 0 ms (h .0) .0) (omega arith) (λ _. refl)),
-        mul-le-mul-right {m = 2 * k - 1} {n = 23} mostValue (omega (arith, costs .ranged .most-tasks)),
-      )
+  below-top ms h = omega (arith, numerator-most c 23000255 0 0 1 ms (h .0) (plan-responses s b costs ms (keeps-rules c ms h)))
 
   pub best-answer : bestPlan (chainOf s b) ≡ answer (problem (chainOf s b)) topThreshold
   unfolding c

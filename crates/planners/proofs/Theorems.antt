@@ -4,18 +4,24 @@
 use mathlib.Core.Path.{_≡_}
 use mathlib.Core.Bool.{true}
 use mathlib.Core.List.{List}
-use mathlib.Core.Logic.{_↔_}
-use Prim.Native.Nat.{ℕ}
+use mathlib.Core.Logic.{_↔_, _⊎_}
+use Prim.Native.Nat.{ℕ, _+_, _*_, _<_}
 use Rattle.records.specs.Filled.{filledIn}
 use Rattle.modules.specs.declared.Module.{Module}
+use Rattle.modules.specs.Model.{Chain, response}
+use Rattle.modules.specs.Rules.{copiesAllowed}
 use Rattle.figures.specs.Model.{blockTime}
 use Rattle.figures.specs.Rules.{keepsRules}
 use Rattle.figures.specs.Plan.{refusal}
 use Rattle.judge.specs.Judge.{judged}
 use Rattle.judge.specs.Timed.{blockTimeAnswer}
 use Rattle.judge.specs.Claims.{chain, Passes}
+use Rattle.search.specs.Copies.{fewest}
+use Rattle.search.specs.Best.{fitsAt}
+use Rattle.planners.specs.Search.{grain, price, problem}
 use Rattle.planners.specs.Best.{begins, bestAnswer, bestBytes}
 use Rattle.planners.specs.Claims.{ComesFirst, Filled}
+use Rattle.planners.proofs.Copies as copies
 use Rattle.planners.proofs.Outcomes as outcomes
 
 module _ (s w work : List ℕ) (began : begins s w work ≡ true) where
@@ -46,3 +52,14 @@ module _ (s w work : List ℕ) (began : begins s w work ≡ true) where
   -- and the single-block time that is answered for it is the one by which it comes first (M-104)
   pub time-same : bestAnswer s w work .number ≡ 0 → (a : List Module) × Filled s w work a × (blockTimeAnswer s (bestBytes s w work) ≡ filledIn (blockTime (chain s w) a))
   time-same e = let (a, f) = fills-best e in (a, f, outcomes.time-agrees s w work began a f)
+
+-- ---- M-106: once D counts, one copy of a module may be within a threshold, two not, and three again; still the fewest that are within it are the
+-- best ones
+
+-- where r copies fit at the threshold n, so do the fewest, which one division finds: they are the r copies, or have fewer copies and cores and weigh
+-- less. So at p cores of a copy the least over r is theirs (`search` `overCopies-at`) and no tie is left; between plans that differ in p too, module
+-- order still puts the smaller r first (`fills-best`)
+pub copies-best : (c : Chain) (n s t l r p q : ℕ) → fitsAt (problem c) n s t l r p q ≡ true
+    → (let f = fewest (copiesAllowed c (t + 1) l 2) (response c s (t + 1) l 1 p q * grain) (response c s (t + 1) l 2 p q * grain) n in
+    (fitsAt (problem c) n s t l f p q ≡ true) × ((f ≡ r) ⊎ ((f < r) × (f * p < r * p) × (price c t l f p q < price c t l r p q))))
+copies-best c n s t l r p q = copies.copies-best c s t l p q n r

@@ -7,7 +7,7 @@ use lib.ListN.{length, getD}
 use lib.Dec.{eqb}
 use Rattle.records.specs.declared.Board.{Board}
 use Rattle.modules.specs.declared.Module.{Module}
-use Rattle.modules.specs.Model.{Chain, response, transfer, body, passage}
+use Rattle.modules.specs.Model.{Chain, response, transfer, handed, body, passage}
 use Rattle.modules.specs.Rules.{moduleRules, copiesAllowed}
 use Rattle.modules.specs.Reach.{reach}
 use Rattle.search.specs.Least.{pick}
@@ -61,9 +61,9 @@ ofSize k p = record {
 abbrev pub noPlan : ℕ → ℕ
 noPlan p = unit * (p + 1)
 
--- the greatest threshold: no response is above 23,000,000 ticks
+-- the greatest threshold: no response is above 23,000,255 ticks (M-106)
 abbrev pub topThreshold : ℕ
-topThreshold = 23552000000
+topThreshold = 23552261120
 
 -- the board is in range
 pub record Sized (b : Board) : Type 0 where
@@ -107,13 +107,15 @@ pub record Placed (b : Board) (n s t q : ℕ) : Type 0 where
   pub room : s + q ≤ b .cores
 
 -- what is known of the module up to task l: it ends within its reach, in one copy it keeps the rules, what it takes before it sends, its
--- body alone, and whether it may have copies
-pub record Loaded (c : Chain) (s t q l base stay : ℕ) (rep : Bool) : Type 0 where
+-- body alone, what handing out to several copies costs (M-106), and whether it may have them
+pub record Loaded (c : Chain) (s t q l base stay out : ℕ) (rep : Bool) : Type 0 where
   pub reached : Reached c t l
   pub keeps : moduleRules c (t + 1) l 1 q ≡ true
   pub taken : base ≡ transfer c t s q + stay
   pub stays : stay ≡ body c (t + 1) l q
   pub low : base < 17592186044416
+  pub handing : out ≡ handed c 2
+  pub little : out < 4294967296
   pub replicable : rep ≡ copiesAllowed c (t + 1) l 2
 
 -- the room that a module leaves for one of q cores: what was left before it, less its price; before the first all that is left

@@ -21,8 +21,8 @@ use records::Board;
 
 const WORK_WORDS: usize = 16384;
 
-// The greatest threshold: 1024 times 23,000,000 ticks, more than which no module takes.
-const TOP: u64 = 23552000000;
+// The greatest threshold: 1024 times 23,000,255 ticks, more than which no module takes.
+const TOP: u64 = 23552261120;
 
 fn zero(work: &mut [u32])
     ensures { λ _. ⌜ now (work .exit) ≡ replicate (length (now (work .entry))) 0 ⌝ }

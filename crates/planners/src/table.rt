@@ -1,9 +1,10 @@
 // The table of a threshold: the least weight of a plan of the tasks that are left, one word for each kind 5 record in the same order,
 // filled from its end. A plan weighs UNIT for each core, and its single-block time (document 02, M-104).
 ghost use mathlib.Core.Path.{_≡_};
-ghost use mathlib.Core.Bool.{true};
+ghost use mathlib.Core.Bool.{true, cond};
 ghost use Prim.Native.Nat.{_+_, _≤_, _<_};
 ghost use lib.ListN.{length};
+ghost use lib.Dec.{ltb};
 ghost use Rattle.modules.specs.Model.{chainOf};
 ghost use Rattle.modules.specs.Rules.{moduleRules};
 ghost use Rattle.modules.specs.Reach.{reach};
@@ -53,6 +54,13 @@ fn fewest_copies(rep: bool, one: u64, more: u64, n: u64) -> u64
     0
 }
 
+// What is paid of the cost of handing out by r copies (document 02, M-106): all of it where there are several.
+fn paid(out: u64, r: u64) -> u64
+    ensures { λ x. ⌜ x ≡ cond (ltb 1 r) out 0 ⌝ }
+{
+    if 1 < r { out } else { 0 }
+}
+
 // The table after a module of s cores and task t, where the next module has q cores.
 pub(crate) fn read_table(work: &[u32], board: Board, s: u8, t: u8, q: u8) -> u32
     requires { ⌜ Holds board (now work) × (1 ≤ s) × (s ≤ board .cores) × (1 ≤ t) × (t ≤ board .tasks) × (q ≤ board .cores) ⌝ }
@@ -86,16 +94,18 @@ fn over_copies(
     q2: u8,
     base: u64,
     stay: u64,
+    out: u64,
     rep: bool,
 ) -> u32
-    requires { ⌜ Holds board (now work) × Placed board n s t q × Loaded (chainOf (now costs) board) s t q l base stay rep × (q2 ≤ board .cores) ⌝ }
+    requires { ⌜ Holds board (now work) × Placed board n s t q × Loaded (chainOf (now costs) board) s t q l base stay out rep × (q2 ≤ board .cores) ⌝ }
     ensures { λ r. ⌜ (r ≡ overCopies (problem (chainOf (now (costs .entry)) board)) (fitsAt (problem (chainOf (now (costs .entry)) board)) n)
         (readTable (problem (chainOf (now (costs .entry)) board)) (now (work .entry))) s t q l q2) × (r ≤ noPlan (board .cores)) ⌝ }
 {
     let none = no_plan(board.cores);
     let sent = modules::transfer(costs, board, l, q, q2) as u64;
     let load = (base + sent) * GRAIN;
-    let r = fewest_copies(rep, load, load, n);
+    let several = load + out * GRAIN;
+    let r = fewest_copies(rep, load, several, n);
     if r < 1 {
         return none;
     }
@@ -106,7 +116,7 @@ fn over_copies(
     if (board.cores as u32) < (s as u32) + cores + (q2 as u32) {
         return none;
     }
-    let ticks = (stay + sent) as u32;
+    let ticks = (stay + sent + paid(out, r)) as u32;
     let rest = read_table(work, board, q, l, q2);
     lesser(none, UNIT * cores + ticks + rest)
 }
@@ -120,15 +130,16 @@ fn over_next(costs: &[u8], board: Board, work: &[u32], n: u64, s: u8, t: u8, q: 
     let received = modules::transfer(costs, board, t, s, q) as u64;
     let stay = modules::body(costs, board, t + 1, l, q);
     let base = received + stay;
+    let out = modules::handed(costs, board, 2) as u64;
     let rep = modules::copies_allowed(costs, board, t + 1, l, 2);
     if l == board.tasks {
-        return over_copies(costs, board, work, n, s, t, q, l, 0, base, stay, rep);
+        return over_copies(costs, board, work, n, s, t, q, l, 0, base, stay, out, rep);
     }
     let end = board.cores - (s + q);
     let mut m = no_plan(board.cores);
     let mut i: u8 = 1;
     while i <= end {
-        let v = over_copies(costs, board, work, n, s, t, q, l, i, base, stay, rep);
+        let v = over_copies(costs, board, work, n, s, t, q, l, i, base, stay, out, rep);
         m = lesser(m, v);
         i += 1;
     }

@@ -15,7 +15,7 @@ use Rattle.records.specs.declared.Board.{Board}
 use Rattle.records.specs.declared.Reading.{Reading}
 use Rattle.records.specs.declared.Refusal.{Refusal}
 use Rattle.records.specs.declared.Key.{Key}
-use Rattle.records.specs.Costs.{mostTasks, mostCores, mostValue, dueKeys, countOf, keyMeets, valueMeets, faultAt, firstFault, accepted, refused, lengthMeets, headMeets, boardOf, boardMeets, readHead, readBoard, readRecords, readCosts}
+use Rattle.records.specs.Costs.{mostTasks, mostCores, mostValue, dueKeys, countOf, taskMeets, keyMeets, valueMeets, faultAt, firstFault, accepted, refused, lengthMeets, headMeets, boardOf, boardMeets, readHead, readBoard, readRecords, readCosts}
 use Rattle.records.specs.Format.{Bears, InRange, Deserves, Deserves.right, Deserves.wrong-key, Deserves.wrong-value, Whole, Headed, Ranged, Long, dueAt, RightBelow, IsCosts, Opens, Opens.board, Opens.length-wrong as opens-length, Opens.head-wrong as opens-head, Opens.board-wrong as opens-board, Framed, Finds, Finds.costs, Finds.length-wrong, Finds.head-wrong, Finds.board-wrong, Finds.count-wrong, Finds.key-wrong, Finds.value-wrong}
 use Rattle.records.proofs.Cases.{true-or-false, true-not-false, false-unless, and-true, or-right, or-unless}
 use Rattle.records.proofs.Listing.{keys-count}
@@ -25,13 +25,13 @@ use Rattle.records.proofs.Walk.{faultOf, Scanned, Scanned.clean, Scanne
 
 module _ (s : List ℕ) (n : ℕ) (d : Key) where
   meets-bears : keyMeets s n d ≡ true → Bears s n d
-  unfolding keyMeets
+  unfolding keyMeets taskMeets
   meets-bears e =
       let h₂ = and-true _ _ e in
       let h₁ = and-true _ _ (h₂ .0) in
       record {
         kind = eqb-true _ _ (h₁ .0);
-        task = eqb-true _ _ (h₁ .1);
+        task = λ other. eqb-true _ _ (or-right (eqb (d .kind) 1) _ (h₁ .1) (ne-eqb (d .kind) 1 other));
         a = λ other. eqb-true _ _ (both (h₂ .1) other .0);
         b = λ other. eqb-true _ _ (both (h₂ .1) other .1);
       }
@@ -41,9 +41,9 @@ module _ (s : List ℕ) (n : ℕ) (d : Key) where
       both h other = and-true _ _ (or-right (eqb (d .kind) 2) _ h (ne-eqb (d .kind) 2 other))
 
   bears-meets : Bears s n d → keyMeets s n d ≡ true
-  unfolding keyMeets
+  unfolding keyMeets taskMeets
   bears-meets h =
-      simp (eq-eqb (byteAt s n 0) (d .kind) (h .kind), eq-eqb (byteAt s n 1) (d .task) (h .task))
+      simp (eq-eqb (byteAt s n 0) (d .kind) (h .kind), or-unless (eqb (d .kind) 1) (eqb (byteAt s n 1) (d .task)) (λ f. eq-eqb (byteAt s n 1) (d .task) (h .task (eqb-false (d .kind) 1 f))))
       (or-unless (eqb (d .kind) 2) (eqb (byteAt s n 2) (d .a) && eqb (byteAt s n 3) (d .b)) (λ f.
       let other = eqb-false (d .kind) 2 f in
       simp (eq-eqb (byteAt s n 2) (d .a) (h .a other), eq-eqb (byteAt s n 3) (d .b) (h .b other))))
@@ -108,11 +108,11 @@ whole-meets s h = simp (le-leb 8 (length s) (h .some), eq-eqb (length s % 8) 0 (
 
 meets-headed : (s : List ℕ) → headMeets s ≡ true → Headed s
 unfolding headMeets
-meets-headed s e = let h = and-true _ _ e in record { kind = eqb-true _ _ (h .0); task = eqb-true _ _ (h .1) }
+meets-headed s e = record { kind = eqb-true _ _ e }
 
 headed-meets : (s : List ℕ) → Headed s → headMeets s ≡ true
 unfolding headMeets
-headed-meets s h = simp (eq-eqb (byteAt s 0 0) 1 (h .kind), eq-eqb (byteAt s 0 1) 0 (h .task))
+headed-meets s h = eq-eqb (byteAt s 0 0) 1 (h .kind)
 
 pub meets-ranged : (b : Board) → boardMeets b ≡ true → Ranged b
 unfolding boardMeets

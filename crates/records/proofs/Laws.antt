@@ -12,6 +12,7 @@ use Rattle.records.specs.Costs.{key, dueKeys, dueKey, countOf, faultAt, 
 use Rattle.records.specs.Format.{Deserves, Ranged, Long, IsCosts, Opens, Finds, Finds.costs}
 use Rattle.records.proofs.Exact as exact
 use Rattle.records.proofs.Listing as listing
+use Rattle.records.proofs.Same as same
 
 -- ---- the due keys, for every k and P: as many as stated, the first is the board's, and each later one is the computed one
 
@@ -58,3 +59,9 @@ accepted-ranges s e = let c = accepted-costs s e in (c .ranged, c .long)
 -- and what the first record alone says is that board
 pub accepted-board : (s : List ℕ) → readCosts s .number ≡ 0 → readBoard s ≡ accepted (readCosts s .board)
 accepted-board s e = exact.costs-board s (readCosts s .board) (accepted-costs s e)
+
+-- ---- M-106: "refusal 2 tests the kind only, and 5 passes over that byte": of two files that differ in the first record's task byte alone the
+-- same is read
+
+pub read-same : (s s′ : List ℕ) → length s ≡ length s′ → ((i : ℕ) → (i ≡ 1 → ⊥) → getD s i 0 ≡ getD s′ i 0) → readCosts s ≡ readCosts s′
+read-same = same.read-same

@@ -3,4 +3,5 @@ pub mod Cases
 pub mod Exact
 pub mod Laws
 pub mod Listing
+pub mod Same
 pub mod Walk

@@ -42,7 +42,7 @@ abbrev pub join : ℕ → (ℕ → List Key) → List Key
 join = joinFrom 0
 
 -- the keys of a file of k tasks and p cores as document 01 lists them: by kind, task, a, b, all rising
--- (a and b of kind 2, the flag and M-100's limit, are free and stand as 0)
+-- (the task of kind 1, M-106's D, and a and b of kind 2, the flag and M-100's limit, are free and stand as 0)
 unfoldable pub dueKeys : ℕ → ℕ → List Key
 dueKeys k p =
     key 1 0 p k
@@ -70,10 +70,14 @@ dueKey k p n =
 
 -- ---- one record against a due key
 
--- refusal 5: kind, task, a and b of record n are the due ones, the flag and the limit (M-100) of kind 2 aside
+-- the task byte of record n is the due one; by M-106 refusal 5 "passes over" that of kind 1, which is D
+unfoldable pub taskMeets : List ℕ → ℕ → Key → Bool
+taskMeets s n d = eqb (d .kind) 1 || eqb (byteAt s n 1) (d .task)
+
+-- refusal 5: kind, task, a and b of record n are the due ones, D (M-106) of kind 1 and the flag and the limit (M-100) of kind 2 aside
 unfoldable pub keyMeets : List ℕ → ℕ → Key → Bool
 keyMeets s n d =
-    eqb (byteAt s n 0) (d .kind) && eqb (byteAt s n 1) (d .task) && (eqb (d .kind) 2 || (eqb (byteAt s n 2) (d .a) && eqb (byteAt s n 3) (d .b)))
+    eqb (byteAt s n 0) (d .kind) && taskMeets s n d && (eqb (d .kind) 2 || (eqb (byteAt s n 2) (d .a) && eqb (byteAt s n 3) (d .b)))
 
 -- refusal 6: the value of record n is in range and, of kind 2, the flag and the limit too: 0 for none, else 1 to 32 (M-100)
 unfoldable pub valueMeets : List ℕ → ℕ → Key → Bool
@@ -104,9 +108,9 @@ refused number place = record { number = number; place = place; board = record {
 unfoldable pub lengthMeets : List ℕ → Bool
 lengthMeets s = leb 8 (length s) && eqb (length s % 8) 0
 
--- refusal 2: the first record's kind and task
+-- refusal 2: the first record's kind; by M-106 it "tests the kind only"
 unfoldable pub headMeets : List ℕ → Bool
-headMeets s = eqb (byteAt s 0 0) 1 && eqb (byteAt s 0 1) 0
+headMeets s = eqb (byteAt s 0 0) 1
 
 -- what the first record says of the board
 abbrev pub boardOf : List ℕ → Board

@@ -10,10 +10,10 @@ use Rattle.records.specs.declared.Reading.{Reading}
 use Rattle.records.specs.declared.Key.{Key}
 use Rattle.records.specs.Costs.{mostTasks, mostCores, mostValue, key, dueKeys, countOf, boardOf, accepted, refused}
 
--- record n of s has that kind, task, a and b, the flag and the limit (M-100) of kind 2 aside
+-- record n of s has that kind, task, a and b, the flag and the limit (M-100) of kind 2 and the task byte of kind 1 (M-106) aside
 pub record Bears (s : List ℕ) (n : ℕ) (d : Key) : Type 0 where
   pub kind : byteAt s n 0 ≡ d .kind
-  pub task : byteAt s n 1 ≡ d .task
+  pub task : (d .kind ≡ 1 → ⊥) → byteAt s n 1 ≡ d .task
   pub a : (d .kind ≡ 2 → ⊥) → byteAt s n 2 ≡ d .a
   pub b : (d .kind ≡ 2 → ⊥) → byteAt s n 3 ≡ d .b
 
@@ -34,10 +34,9 @@ pub record Whole (s : List ℕ) : Type 0 where
   pub some : 8 ≤ length s
   pub whole : length s % 8 ≡ 0
 
--- the first record is the board's
+-- the first record is the board's, by its kind alone (M-106)
 pub record Headed (s : List ℕ) : Type 0 where
   pub kind : byteAt s 0 0 ≡ 1
-  pub task : byteAt s 0 1 ≡ 0
 
 -- a board in range
 pub record Ranged (b : Board) : Type 0 where

@@ -1,7 +1,7 @@
 // The due keys of a file by their place, and the test of one record against a due key.
 ghost use mathlib.Core.Path.{_≡_};
 ghost use Prim.Native.Nat.{_≤_};
-ghost use Rattle.records.specs.Costs.{dueKey, keyMeets, valueMeets, faultAt, countOf};
+ghost use Rattle.records.specs.Costs.{dueKey, taskMeets, keyMeets, valueMeets, faultAt, countOf};
 use crate::Key;
 use fields::byte_at;
 use fields::value_at;
@@ -75,7 +75,18 @@ pub(crate) fn due(k: u8, p: u8, n: u32) -> Key
     }
 }
 
-// Whether the first four bytes of record n are the key, the flag and the limit of kind 2 aside.
+// Whether the task byte of record n is the key's; that of kind 1 is passed over (document 02, M-106).
+fn task_meets(costs: &[u8], n: u32, key: Key) -> bool
+    ensures { λ r. ⌜ r ≡ taskMeets (now (costs .entry)) n key ⌝ }
+{
+    if key.kind == 1 {
+        return true;
+    }
+    let task = byte_at(costs, n, 1);
+    task == key.task
+}
+
+// Whether the first four bytes of record n are the key, the task byte of kind 1 and the flag and the limit of kind 2 aside.
 fn key_meets(costs: &[u8], n: u32, key: Key) -> bool
     ensures { λ r. ⌜ r ≡ keyMeets (now (costs .entry)) n key ⌝ }
 {
@@ -83,8 +94,7 @@ fn key_meets(costs: &[u8], n: u32, key: Key) -> bool
     if kind != key.kind {
         return false;
     }
-    let task = byte_at(costs, n, 1);
-    if task != key.task {
+    if !task_meets(costs, n, key) {
         return false;
     }
     if kind == 2 {

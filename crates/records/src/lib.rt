@@ -1,7 +1,7 @@
 // Cost records (document 01, "Cost records"): a board's costs as fixed records of 8 bytes, each a kind, a task, a, b and
 // a value of four bytes, lowest first.
 //
-// A task's core limit (document 02, M-100) is byte b of its record.
+// A task's core limit (document 02, M-100) is byte b of its record, what handing out to copies costs (M-106) the task byte of the first.
 //
 // `read` says whether a byte string is a board's costs, or which of refusals 1 to 6 is due; `read_board` asks the length and the
 // first record only, refusals 1 to 3. No public function has a `requires`: each answers for every slice and every number.

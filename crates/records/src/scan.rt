@@ -87,10 +87,6 @@ fn read_head(costs: &[u8]) -> Reading
     if kind != 1 {
         return refuse(2, 0);
     }
-    let task = byte_at(costs, 0, 1);
-    if task != 0 {
-        return refuse(2, 0);
-    }
     let cores = byte_at(costs, 0, 2) as u8;
     let tasks = byte_at(costs, 0, 3) as u8;
     let capacity = value_at(costs, 0);

@@ -86,6 +86,13 @@ module _ (X : Problem) (n s t q l q′ : ℕ) (c rep : Bool) (a b : ℕ)
       let d : T (rules X s t l i q q′) = search (and-i, e, lt→ltb t l later, le→leb l (X .tasks) inside, le→leb 1 i h, le→leb 1 q pos) in
       tight-i (X .board) (within X n) s t l i q q′ (and-i (rules X s t l i q q′) load d z) g
 
+  -- where i copies fit at the threshold n the fewest that are enough fit too, and they are no more
+  pub fewest-fit : a ≤ b → (i : ℕ) → T (fitsAt X n s t l i q q′) → T (fitsAt X n s t l (fewest rep a b n) q q′) × (fewest rep a b n ≤ i)
+  fewest-fit rise i u =
+      let w = at-split i u in
+      let e = fewest-least rep a b n rise i (w .0) (w .2) in
+      (at-join (fewest rep a b n) (e .0) (w .1) (fewest-enough rep a b n rise (e .0)) (omega (arith, w .3, mul-le-mul-right q (e .1))), e .1)
+
   -- the least over the copies at the threshold n: one division, one test of the room
   pub overCopies-at : a ≤ b → (rest : Table) → ((r r′ : ℕ) → r ≤ r′ → X .price s t l r q q′ ≤ X .price s t l r′ q q′)
       → overCopies X (fitsAt X n) rest s t q l q′

@@ -7,17 +7,19 @@ use mathlib.Core.List.{List, [], _∷_, _++_, map}
 use lib.ListN.{length, getD, replicate, set}
 use lib.Dec.{eqb}
 use Rattle.records.specs.declared.Board.{Board}
-use Rattle.records.specs.Costs.{eachFrom, joinFrom, dueKeys, countOf, accepted, keyMeets, valueMeets, faultAt, firstFault, lengthMeets, headMeets, boardMeets, readRecords, readHead, readBoard, readCosts}
+use Rattle.records.specs.Costs.{eachFrom, joinFrom, dueKeys, countOf, accepted, taskMeets, keyMeets, valueMeets, faultAt, firstFault, lengthMeets, headMeets, boardMeets, readRecords, readHead, readBoard, readCosts}
 use Rattle.rounding.specs.Rounding.{roundedUp}
 use Rattle.fields.specs.Fields.{valueAt}
-use Rattle.lookups.specs.Lookups.{within, hasNext, cellOf, needOf, replicableOf, limitOf, executionOf, internalOf, pairPlace, pairOf, externalOf}
+use Rattle.lookups.specs.Lookups.{within, hasNext, cellOf, handOutOf, needOf, replicableOf, limitOf, executionOf, internalOf, pairPlace, pairOf, externalOf}
 use Rattle.modules.specs.declared.Module.{Module}
-use Rattle.modules.specs.Model.{Chain, chainOf, run, gather, body, transfer, response, passage}
+use Rattle.modules.specs.Model.{Chain, chainOf, run, gather, body, transfer, handed, response, passage}
 use Rattle.modules.specs.Rules.{share, shares, memoryFits, tighter, limitFrom, moduleLimit, allows, withinLimit, fewestFrom, fewestCores}
 use Rattle.layout.specs.Layout.{recordOf, countFrom, moduleCount, modulesFrom, modulesOf, putModule}
 use Rattle.figures.specs.Model.{responses, coresOf, slowerOf, slowestFrom, bottleneck, blockTime}
 use Rattle.figures.specs.Plan.{figuresOf, responseAt}
-use Rattle.starred.specs.Dock.{smallDock, fixedDock}
+use Rattle.search.specs.Least.{pick}
+use Rattle.search.specs.Copies.{enough, fewest as fewest-copies}
+use Rattle.starred.specs.Dock.{smallDock, fixedDock, copyingDock}
 use Rattle.starred.specs.Cases.{figures, one, two}
 
 -- the numbers 0 to 5
@@ -40,16 +42,19 @@ million at = set (set (set smallDock at 64) (at + 1) 66) (at + 2) 15
 abbrev smallest : List ℕ
 smallest = 1 ∷ 0 ∷ 1 ∷ 1 ∷ 7 ∷ 0 ∷ 0 ∷ 0 ∷ 2 ∷ 1 ∷ 0 ∷ 0 ∷ 1 ∷ 0 ∷ 0 ∷ 0 ∷ 3 ∷ 1 ∷ 1 ∷ 0 ∷ 2 ∷ 0 ∷ 0 ∷ 0 ∷ []
 
--- what is read of accepted files: with the greatest capacity, need and cost, with a task that is not replicable, and of the smallest
+-- what is read of accepted files: with the greatest capacity, need and cost, with a task that is not replicable, with a D (M-106), and of
+-- the smallest
 readings :
     (readCosts smallDock ≡ accepted (board 4 100))
     × (readCosts (million 4) ≡ accepted (board 4 1000000))
     × (readCosts (million 12) ≡ accepted (board 4 100))
     × (readCosts (million 244) ≡ accepted (board 4 100))
     × (readCosts fixedDock ≡ accepted (board 4 100))
+    × (readCosts (copyingDock 1) ≡ accepted (board 4 100))
+    × (readCosts (copyingDock 255) ≡ accepted (board 4 100))
     × (readCosts smallest ≡ accepted (record { tasks = 1; cores = 1; capacity = 7 }))
-unfolding valueAt eachFrom joinFrom dueKeys countOf keyMeets valueMeets faultAt firstFault lengthMeets headMeets boardMeets readHead readBoard readRecords readCosts smallDock fixedDock
-readings = (refl, refl, refl, refl, refl, refl)
+unfolding valueAt eachFrom joinFrom dueKeys countOf taskMeets keyMeets valueMeets faultAt firstFault lengthMeets headMeets boardMeets readHead readBoard readRecords readCosts smallDock fixedDock copyingDock
+readings = (refl, refl, refl, refl, refl, refl, refl, refl)
 
 -- costs of tasks and cores that are not there are 0, and their parts empty
 needs : map (needOf smallDock (board 4 100)) few ≡ 0 ∷ 50 ∷ 150 ∷ 0 ∷ 0 ∷ 0 ∷ []
@@ -121,6 +126,7 @@ limited = record {
   tasks = 6;
   board = 9;
   capacity = 1;
+  handOut = 0;
   need = λ t. 0;
   replicable = λ t. true;
   limit = λ t. getD (0 ∷ 0 ∷ 5 ∷ 2 ∷ 0 ∷ 9 ∷ 2 ∷ []) t 0;
@@ -162,13 +168,49 @@ transfers : map (transfer dock 1 4) few ++ map (transfer dock 1 0) few ++ map (�
 unfolding valueAt within hasNext cellOf pairPlace pairOf externalOf transfer smallDock
 transfers = refl
 
--- copies don't enter a response; task 1 receives nothing and task 2 sends nothing, whatever stands beside them
+-- D is 0, so copies don't enter a response; task 1 receives nothing and task 2 sends nothing, whatever stands beside them
 between :
     (response dock 0 1 1 2 1 2 ≡ 14) × (response dock 1 2 2 1 2 0 ≡ 12) × (response dock 0 1 2 2 2 0 ≡ 18) × (response dock 0 1 2 7 2 0 ≡ 18)
     × (response dock 0 1 1 1 1 0 ≡ 12) × (response dock 3 1 1 1 1 0 ≡ 12) × (response dock 0 2 2 1 2 0 ≡ 10) × (response dock 0 2 2 1 2 3 ≡ 10)
     × (response dock 3 1 2 1 2 3 ≡ 18)
-unfolding valueAt within hasNext cellOf executionOf internalOf pairPlace pairOf externalOf run gather body transfer response smallDock
+unfolding handOutOf valueAt within hasNext cellOf executionOf internalOf pairPlace pairOf externalOf run gather body transfer handed response smallDock
 between = (refl, refl, refl, refl, refl, refl, refl, refl, refl)
+
+-- ---- M-106: what handing out costs
+
+hand-outs : map handOutOf (smallDock ∷ copyingDock 10 ∷ copyingDock 255 ∷ [] ∷ (1 ∷ []) ∷ (1 ∷ 9 ∷ []) ∷ []) ≡ 0 ∷ 10 ∷ 255 ∷ 0 ∷ 0 ∷ 9 ∷ []
+unfolding handOutOf smallDock copyingDock
+hand-outs = refl
+
+abbrev copying : Chain
+copying = chainOf (copyingDock 10) (board 4 100)
+
+-- 0 to 5 copies: D if r is above 1, once however many they are; and so in a response and in what a module adds to the time of a block
+handed-out :
+    (map (handed copying) few ≡ 0 ∷ 0 ∷ 10 ∷ 10 ∷ 10 ∷ 10 ∷ [])
+    × (map (handed dock) few ≡ replicate 6 0)
+    × (map (λ r. response copying 0 1 1 r 1 2) few ≡ 14 ∷ 14 ∷ 24 ∷ 24 ∷ 24 ∷ 24 ∷ [])
+    × (map (λ r. response copying 1 2 2 r 2 0) few ≡ 12 ∷ 12 ∷ 22 ∷ 22 ∷ 22 ∷ 22 ∷ [])
+    × (map (λ r. passage copying 2 2 r 2 0) few ≡ 10 ∷ 10 ∷ 20 ∷ 20 ∷ 20 ∷ 20 ∷ [])
+unfolding handOutOf valueAt within hasNext cellOf executionOf internalOf pairPlace pairOf externalOf run gather body transfer handed response passage smallDock copyingDock
+handed-out = (refl, refl, refl, refl, refl)
+
+-- at a threshold of 5 one copy is enough, two are not, and three are again: a load of 5, and of 12 where handing out costs 7
+copies-enough : (map (enough true 5 12 5) few ≡ false ∷ true ∷ false ∷ true ∷ true ∷ true ∷ []) × (fewest-copies true 5 12 5 ≡ 1) × (fewest-copies true 6 13 5 ≡ 3)
+unfolding roundedUp pick fewest-copies
+copies-enough = (refl, refl, refl)
+
+-- of plans: D before the division, for each module with copies
+copying-plans :
+    (figuresOf copying (modulesOf (one 1 2 2 2) 2) ≡ figures 1 4 1 28 2)
+    × (figuresOf copying (modulesOf (one 1 2 1 4) 2) ≡ figures 1 4 1 11 1)
+    × (figuresOf copying (modulesOf (two 1 1 2 1 2 2 1 2) 2) ≡ figures 2 4 1 24 2)
+    × (blockTime copying (modulesOf (one 1 2 2 2) 2) ≡ 28)
+    × (blockTime copying (modulesOf (one 1 2 1 4) 2) ≡ 11)
+    × (blockTime copying (modulesOf (two 1 1 2 1 2 2 1 2) 2) ≡ 34)
+    × (blockTime copying (modulesOf (two 1 1 2 1 2 2 3 2) 2) ≡ 44)
+unfolding handOutOf valueAt within hasNext cellOf executionOf internalOf pairPlace pairOf externalOf run gather body transfer handed response passage countFrom moduleCount modulesFrom modulesOf coresOf slowerOf slowestFrom bottleneck figuresOf blockTime smallDock copyingDock
+copying-plans = (refl, refl, refl, refl, refl, refl, refl)
 
 -- ---- plans of it: figures are no judgement
 
@@ -180,7 +222,7 @@ plans :
     × (figuresOf dock (modulesOf (two 1 1 2 1 2 2 1 3) 2) ≡ figures 2 5 2 10 1)
     × (figuresOf dock (modulesOf (two 1 2 2 2 2 2 1 1) 2) ≡ figures 1 4 1 18 2)
     × (figuresOf dock (modulesOf (one 1 2 2 2 ++ replicate 12 255) 2) ≡ figures 1 4 1 18 2)
-unfolding valueAt within hasNext cellOf executionOf internalOf pairPlace pairOf externalOf run gather body transfer response countFrom moduleCount modulesFrom modulesOf coresOf slowerOf slowestFrom bottleneck figuresOf smallDock
+unfolding handOutOf valueAt within hasNext cellOf executionOf internalOf pairPlace pairOf externalOf run gather body transfer handed response countFrom moduleCount modulesFrom modulesOf coresOf slowerOf slowestFrom bottleneck figuresOf smallDock
 plans = (refl, refl, refl, refl, refl, refl)
 
 -- the responses of modules 0, 1, 2, 12 and 4,294,967,295; 0 where there is none
@@ -193,10 +235,10 @@ each-response :
     × (each dock (modulesOf (one 1 2 1 1) 2) ≡ 33 ∷ 0 ∷ 0 ∷ 0 ∷ 0 ∷ [])
     × (each dock (modulesOf (two 1 1 2 1 2 2 1 3) 2) ≡ 14 ∷ 10 ∷ 0 ∷ 0 ∷ 0 ∷ [])
     × (each dock (modulesOf (two 1 2 2 2 2 2 1 1) 2) ≡ 18 ∷ 0 ∷ 0 ∷ 0 ∷ 0 ∷ [])
-unfolding valueAt within hasNext cellOf executionOf internalOf pairPlace pairOf externalOf run gather body transfer response countFrom moduleCount modulesFrom modulesOf responses responseAt smallDock
+unfolding handOutOf valueAt within hasNext cellOf executionOf internalOf pairPlace pairOf externalOf run gather body transfer handed response countFrom moduleCount modulesFrom modulesOf responses responseAt smallDock
 each-response = (refl, refl, refl, refl, refl)
 
--- M-104: their single-block times, in which copies don't enter and the external transfer of 2 is once
+-- M-104: their single-block times, in which the external transfer of 2 is once
 times :
     (blockTime dock (modulesOf (one 1 2 2 2) 2) ≡ 18)
     × (blockTime dock (modulesOf (one 1 2 1 2) 2) ≡ 18)
@@ -205,7 +247,7 @@ times :
     × (blockTime dock (modulesOf (two 1 1 2 1 2 2 1 3) 2) ≡ 22)
     × (blockTime dock (modulesOf (two 1 2 2 2 2 2 1 1) 2) ≡ 18)
     × (blockTime dock [] ≡ 0)
-unfolding valueAt within hasNext cellOf executionOf internalOf pairPlace pairOf externalOf run gather body transfer passage countFrom moduleCount modulesFrom modulesOf blockTime smallDock
+unfolding handOutOf valueAt within hasNext cellOf executionOf internalOf pairPlace pairOf externalOf run gather body transfer handed passage countFrom moduleCount modulesFrom modulesOf blockTime smallDock
 times = (refl, refl, refl, refl, refl, refl, refl)
 
 -- ---- plan bytes
@@ -246,13 +288,14 @@ unfolding putModule
 all-put = (refl, refl, refl, refl, refl, refl, refl, refl, refl)
 
 -- ---- twelve tasks on 32 cores: task t needs 10 t and takes 1000 t + p, its internal transfer takes 100 t + p, its external one
--- 10000 t + 100 s + q; odd tasks are replicable
+-- 10000 t + 100 s + q; odd tasks are replicable; handing out costs 7 (M-106)
 
 abbrev rising : Chain
 rising = record {
   tasks = 12;
   board = 32;
   capacity = 100;
+  handOut = 7;
   need = λ t. 10 * t;
   replicable = λ t. eqb (t % 2) 1;
   limit = λ t. 0;
@@ -271,22 +314,22 @@ rising-responses :
     (responses rising 0 twelve
     ≡ 11103 ∷ 32307 ∷ 53507 ∷ 74404 ∷ 95307 ∷ 116507 ∷ 137404 ∷ 158307 ∷ 179507 ∷ 200404 ∷ 221307 ∷ 122206 ∷ [])
     × (responses rising 0 (four 1 12 1 32 ∷ []) ≡ 85336 ∷ [])
-    × (responses rising 0 (four 1 12 4 8 ∷ []) ≡ 84784 ∷ [])
+    × (responses rising 0 (four 1 12 4 8 ∷ []) ≡ 84791 ∷ [])
     × (responses rising 0 (four 1 6 1 20 ∷ four 7 12 1 12 ∷ []) ≡ 84732 ∷ 123644 ∷ [])
     × (responses rising 0 (four 1 6 1 12 ∷ four 7 12 1 20 ∷ []) ≡ 83852 ∷ 122940 ∷ [])
     × (response rising 3 4 6 1 5 7 ≡ 106737)
     × (response rising 0 4 6 1 5 0 ≡ 15925)
-unfolding run gather body transfer response responses
+unfolding run gather body transfer handed response responses
 rising-responses = (refl, refl, refl, refl, refl, refl, refl)
 
 -- M-104: the sums of these responses less the external transfers
 rising-times :
     (blockTime rising twelve ≡ 740147)
     × (blockTime rising (four 1 12 1 32 ∷ []) ≡ 85336)
-    × (blockTime rising (four 1 12 4 8 ∷ []) ≡ 84784)
+    × (blockTime rising (four 1 12 4 8 ∷ []) ≡ 84791)
     × (blockTime rising (four 1 6 1 20 ∷ four 7 12 1 12 ∷ []) ≡ 146364)
     × (blockTime rising (four 1 6 1 12 ∷ four 7 12 1 20 ∷ []) ≡ 145572)
     × (passage rising 4 6 1 5 7 ≡ 76432)
-    × (passage rising 4 6 9 5 0 ≡ 15925)
-unfolding run gather body transfer passage blockTime
+    × (passage rising 4 6 9 5 0 ≡ 15932)
+unfolding run gather body transfer handed passage blockTime
 rising-times = (refl, refl, refl, refl, refl, refl, refl)

@@ -10,7 +10,7 @@ use Rattle.figures.specs.Plan.{refusal}
 use Rattle.judge.specs.Judge.{judged}
 use Rattle.greedy.specs.Greedy.{greedyAnswer, greedyBytes}
 use Rattle.planners.specs.Best.{workWords, bestAnswer, bestBytes}
-use Rattle.starred.specs.Dock.{smallDock, fixedDock, dockOf, fivesDock, idleDock}
+use Rattle.starred.specs.Dock.{smallDock, fixedDock, dockOf, copyingDock, fivesDock, idleDock}
 
 -- ---- what is lent, and what is answered
 
@@ -60,6 +60,7 @@ starred =
     ∷ best (dockOf 50) (figures 2 4 1 14 1) (two 1 1 1 1 2 2 1 3)
     ∷ best (dockOf 49) (refusal 9 0) lent
     ∷ best idleDock (figures 1 2 1 0 1) (one 1 2 1 2)
+    ∷ best (copyingDock 10) (figures 1 4 1 11 1) (one 1 2 1 4)
     ∷ bench smallDock 1 (figures 2 4 2 12 1) (two 1 1 1 2 2 2 1 2)
     ∷ bench smallDock 0 (figures 1 4 1 11 1) (one 1 2 1 4)
     ∷ bench smallDock 2 (refusal 10 0) lent

@@ -46,6 +46,10 @@ fixedDock = set smallDock 10 0
 unfoldable pub dockOf : ℕ → List ℕ
 dockOf capacity = set smallDock 4 capacity
 
+-- M-106: handing out to copies costs D
+unfoldable pub copyingDock : ℕ → List ℕ
+copyingDock d = set smallDock 1 d
+
 -- M-103: needs 5 and 5 with capacity 5
 unfoldable pub fivesDock : List ℕ
 fivesDock = set (set (dockOf 5) 12 5) 20 5

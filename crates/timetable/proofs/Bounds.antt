@@ -9,17 +9,19 @@ use mathlib.Core.List.{List, [], _∷_, List·Memᴰ, List·Memᴰ·head, List·
 use mathlib.Core.Logic.{⊎-elim}
 use lib.ListN.{getD, drop, replicate, length}
 use lib.Seq.{getD-drop}
+use borrow.Author.Tests.{leb-true}
 use Rattle.modules.specs.declared.Module.{Module}
 use Rattle.modules.specs.Model.{Chain, body, transfer}
 use Rattle.modules.proofs.Amounts.{no-sender}
-use Rattle.modules.proofs.Laws.{passage-parts, response-passage}
+use Rattle.modules.proofs.Laws.{passage-parts, response-passage, handed-none}
 use Rattle.figures.specs.declared.Slowest.{Slowest}
 use Rattle.figures.specs.Model.{headCores, responseOf, blockTime}
 use Rattle.figures.specs.Rules.{covers}
 use Rattle.figures.specs.Claims.{loads}
 use Rattle.figures.proofs.Covering.{covers-head}
+use Rattle.judge.specs.Claims.{AllPass}
 use Rattle.timetable.specs.Stages.{Stage, stageOf, stages}
-use Rattle.timetable.specs.Timetable.{throughAt, pass, throughs, lastOf, endOf}
+use Rattle.timetable.specs.Timetable.{throughAt, pass, throughs, lastOf, endOf, singleTest}
 use Rattle.timetable.proofs.Greater.{through-both, through-least}
 use Rattle.timetable.proofs.Rows.{zeros}
 
@@ -133,82 +135,96 @@ end-most : (b : ℕ) (ss : List Stage) → Within b 0 ss → (n : ℕ) → endOf
 unfolding endOf throughs
 end-most b ss h n = last-below (n * b) 0 ss (getD (throughs ss n) 0 0) (throughs ss n) (omega arith) (below-throughs b ss h n)
 
--- ---- a plan's responses and time
+-- ---- the responses and the time of a plan without copies
+
+-- the first module has one copy, and so have the others
+pub single-first : (m : Module) (ms : List Module) → AllPass singleTest (m ∷ ms) → m .copies ≤ 1
+single-first m ms all = leb-true (m .copies) 1 (all .passes 0 (omega arith))
+
+pub single-rest : (m : Module) (ms : List Module) → AllPass singleTest (m ∷ ms) → AllPass singleTest ms
+single-rest m ms all = record { passes = λ j h. all .passes (suc j) (omega arith) }
 
 module _ (c : Chain) (k : ℕ) where
-  -- a response is what is received, the body and what is sent
-  response-stage : (s t : ℕ) (m : Module) (ms : List Module) → m .first ≡ t
+  -- nothing is handed out (M-106): a response is what is received, the body and what is sent
+  response-stage : (s t : ℕ) (m : Module) (ms : List Module) → m .first ≡ t → m .copies ≤ 1
       → responseOf c s m ms ≡ transfer c (t - 1) s (m .cores) + body c (m .first) (m .last) (m .cores) + transfer c (m .last) (m .cores) (headCores ms)
-  response-stage s t m ms e =
+  response-stage s t m ms e one =
       rw (← e)
       (omega (
         arith,
         response-passage c (m .first) (m .last) (m .copies) (m .cores) (headCores ms) s,
         passage-parts c (m .first) (m .last) (m .copies) (m .cores) (headCores ms),
+        handed-none c (m .copies) one,
       ))
 
   -- what the next module receives is what this one sends
   send-received : (m : Module) (ms : List Module) → transfer c (m .last + 1 - 1) (m .cores) (headCores ms) ≡ transfer c (m .last) (m .cores) (headCores ms)
   send-received m ms = ap (λ (i : ℕ). transfer c i (m .cores) (headCores ms)) (omega arith)
 
-  within-loads : (b s t n : ℕ) (ms : List Module) → covers k t ms ≡ true → ((x : Slowest) → List·Memᴰ x (loads c s n ms) → x .response ≤ b)
+  within-loads : (b s t n : ℕ) (ms : List Module) → covers k t ms ≡ true → AllPass singleTest ms → ((x : Slowest) → List·Memᴰ x (loads c s n ms) → x .response ≤ b)
       → Within b (transfer c (t - 1) s (headCores ms)) (stages c ms)
   unfolding Within stages loads
-  within-loads b s t n [] e h = tt
-  within-loads b s t n (m ∷ ms) e h =
+  within-loads b s t n [] e all h = tt
+  within-loads b s t n (m ∷ ms) e all h =
       let z = covers-head k t m ms e in
-      let r = response-stage s t m ms (z .0) in (
+      let r = response-stage s t m ms (z .0) (single-first m ms all) in (
         omega (arith, r, h _ (List·Memᴰ·head refl)),
-        rw (send-received m ms) at (within-loads b (m .cores) (m .last + 1) (n + 1) ms (z .5) (λ x i. h x (List·Memᴰ·tail i))),
+        rw (send-received m ms) at (within-loads b (m .cores) (m .last + 1) (n + 1) ms (z .5) (single-rest m ms all) (λ x i. h x (List·Memᴰ·tail i))),
       )
 
-  load-ends : (j start s t n ready from : ℕ) (ms : List Module) (ts : List ℕ) → covers k t ms ≡ true → (x : Slowest) → List·Memᴰ x (loads c s n ms)
+  load-ends : (j start s t n ready from : ℕ) (ms : List Module) (ts : List ℕ) → covers k t ms ≡ true → AllPass singleTest ms → (x : Slowest) → List·Memᴰ x (loads c s n ms)
       → Above j start (transfer c (t - 1) s (headCores ms)) (stages c ms) (pass ready (stages c ms) ts)
       → start + j * x .response + alone (stages c ms) ≤ lastOf from (pass ready (stages c ms) ts)
   unfolding Above alone stages loads pass lastOf
-  load-ends j start s t n ready from [] ts e x i a = absurd (List·Memᴰ·not-nil i)
-  load-ends j start s t n ready from (m ∷ ms) ts e x i a =
+  load-ends j start s t n ready from [] ts e all x i a = absurd (List·Memᴰ·not-nil i)
+  load-ends j start s t n ready from (m ∷ ms) ts e all x i a =
       let z = covers-head k t m ms e in
       let out = throughAt (stageOf c m ms) ready (getD ts 1 0) in
       ⊎-elim
       (λ d.
-      let q = ap (λ (v : ℕ). j * v) (ap (λ (y : Slowest). y .response) d ∙ response-stage s t m ms (z .0)) in
+      let q = ap (λ (v : ℕ). j * v) (ap (λ (y : Slowest). y .response) d ∙ response-stage s t m ms (z .0) (single-first m ms all)) in
       omega (arith, q, a .0, last-after out (stages c ms) (drop 1 ts)))
       (λ l.
-      omega (arith, load-ends j (start + (stageOf c m ms .body + stageOf c m ms .send)) (m .cores) (m .last + 1) (n + 1) out out ms (drop 1 ts) (z .5) x l (rw (send-received m ms) (a .1))))
+      omega (arith, load-ends j (start + (stageOf c m ms .body + stageOf c m ms .send)) (m .cores) (m .last + 1) (n + 1) out out ms (drop 1 ts) (z .5) (single-rest m ms all) x l (rw (send-received m ms) (a .1))))
       (List·Memᴰ·cases-cons i)
 
   -- no response is above a single block's time
-  load-alone : (start s t n : ℕ) (ms : List Module) → covers k t ms ≡ true → transfer c (t - 1) s (headCores ms) ≤ start → (x : Slowest) → List·Memᴰ x (loads c s n ms)
+  load-alone : (start s t n : ℕ) (ms : List Module) → covers k t ms ≡ true → AllPass singleTest ms → transfer c (t - 1) s (headCores ms) ≤ start → (x : Slowest) → List·Memᴰ x (loads c s n ms)
       → x .response ≤ start + alone (stages c ms)
   unfolding alone stages loads
-  load-alone start s t n [] e h x i = absurd (List·Memᴰ·not-nil i)
-  load-alone start s t n (m ∷ ms) e h x i =
+  load-alone start s t n [] e all h x i = absurd (List·Memᴰ·not-nil i)
+  load-alone start s t n (m ∷ ms) e all h x i =
       let z = covers-head k t m ms e in
       ⊎-elim
-      (λ d. omega (arith, ap (λ (y : Slowest). y .response) d, response-stage s t m ms (z .0)))
+      (λ d. omega (arith, ap (λ (y : Slowest). y .response) d, response-stage s t m ms (z .0) (single-first m ms all)))
       (λ l.
-      let up = load-alone (start + (stageOf c m ms .body + stageOf c m ms .send)) (m .cores) (m .last + 1) (n + 1) ms (z .5) (omega (arith, send-received m ms)) x l in
+      let up = load-alone (start + (stageOf c m ms .body + stageOf c m ms .send)) (m .cores) (m .last + 1) (n + 1) ms (z .5) (single-rest m ms all) (omega (arith, send-received m ms)) x l in
       omega arith)
       (List·Memᴰ·cases-cons i)
 
-  alone-time : (ms : List Module) → alone (stages c ms) ≡ blockTime c ms
+  alone-time : (ms : List Module) → AllPass singleTest ms → alone (stages c ms) ≡ blockTime c ms
   unfolding alone stages blockTime
-  alone-time [] = refl
-  alone-time (m ∷ ms) = omega (arith, alone-time ms, passage-parts c (m .first) (m .last) (m .copies) (m .cores) (headCores ms))
+  alone-time [] all = refl
+  alone-time (m ∷ ms) all =
+      omega (
+        arith,
+        alone-time ms (single-rest m ms all),
+        passage-parts c (m .first) (m .last) (m .copies) (m .cores) (headCores ms),
+        handed-none c (m .copies) (single-first m ms all),
+      )
 
   -- every response n times and a single block's time, and at most so many of the greatest and that time
-  pub end-after : (n : ℕ) (ms : List Module) → covers k 1 ms ≡ true → (x : Slowest) → List·Memᴰ x (loads c 0 1 ms) → n * x .response + blockTime c ms ≤ endOf (stages c ms) (suc n)
+  pub end-after : (n : ℕ) (ms : List Module) → covers k 1 ms ≡ true → AllPass singleTest ms → (x : Slowest) → List·Memᴰ x (loads c 0 1 ms) → n * x .response + blockTime c ms ≤ endOf (stages c ms) (suc n)
   unfolding endOf throughs
-  end-after n ms e x i =
+  end-after n ms e all x i =
       let ss = stages c ms in
       let a : Above n 0 (transfer c (1 - 1) 0 (headCores ms)) ss (throughs ss (suc n)) = rw (no-sender c (1 - 1) (headCores ms)) (above-throughs ss n) in
-      omega (arith, load-ends n 0 0 1 1 (getD (throughs ss n) 0 0) 0 ms (throughs ss n) e x i a, alone-time ms)
+      omega (arith, load-ends n 0 0 1 1 (getD (throughs ss n) 0 0) 0 ms (throughs ss n) e all x i a, alone-time ms all)
 
-  pub end-before : (b n : ℕ) (ms : List Module) → covers k 1 ms ≡ true → ((x : Slowest) → List·Memᴰ x (loads c 0 1 ms) → x .response ≤ b)
+  pub end-before : (b n : ℕ) (ms : List Module) → covers k 1 ms ≡ true → AllPass singleTest ms → ((x : Slowest) → List·Memᴰ x (loads c 0 1 ms) → x .response ≤ b)
       → endOf (stages c ms) (suc n) ≤ n * b + blockTime c ms
-  end-before b n ms e h =
-      omega (arith, end-most b (stages c ms) (rw (no-sender c (1 - 1) (headCores ms)) at (within-loads b 0 1 1 ms e h)) n, alone-time ms)
+  end-before b n ms e all h =
+      omega (arith, end-most b (stages c ms) (rw (no-sender c (1 - 1) (headCores ms)) at (within-loads b 0 1 1 ms e all h)) n, alone-time ms all)
 
-  pub response-alone : (ms : List Module) → covers k 1 ms ≡ true → (x : Slowest) → List·Memᴰ x (loads c 0 1 ms) → x .response ≤ blockTime c ms
-  response-alone ms e x i = omega (arith, load-alone 0 0 1 1 ms e (rw (no-sender c (1 - 1) (headCores ms)) (omega arith)) x i, alone-time ms)
+  pub response-alone : (ms : List Module) → covers k 1 ms ≡ true → AllPass singleTest ms → (x : Slowest) → List·Memᴰ x (loads c 0 1 ms) → x .response ≤ blockTime c ms
+  response-alone ms e all x i = omega (arith, load-alone 0 0 1 1 ms e all (rw (no-sender c (1 - 1) (headCores ms)) (omega arith)) x i, alone-time ms all)

@@ -3,12 +3,12 @@
 use Prim.Native.Nat.{ℕ, zero, suc, _+_, _*_, _-_, _≤_}
 use native.Mathlib.Nat.{not-suc-le-zero, suc-mul}
 use native.Mathlib.Omega.{arith}
-use mathlib.Core.Path.{_≡_, ap, _∙_}
+use mathlib.Core.Path.{_≡_, refl, ap, _∙_}
 use mathlib.Core.Bool.{true}
 use mathlib.Core.List.{List, [], _∷_, List·Memᴰ, List·Memᴰ·not-nil, List·Memᴰ·cases-cons}
 use mathlib.Core.Logic.{⊎-elim}
 use lib.ListN.{length, getD}
-use borrow.Author.Tests.{leb-true}
+use borrow.Author.Tests.{le-ltb}
 use Rattle.records.specs.declared.Filled.{Filled}
 use Rattle.records.specs.Costs.{readCosts}
 use Rattle.records.proofs.Laws.{accepted-costs}
@@ -18,11 +18,11 @@ use Rattle.figures.specs.declared.Answer.{Answer}
 use Rattle.figures.specs.declared.Slowest.{Slowest}
 use Rattle.figures.specs.Model.{bottleneck, blockTime}
 use Rattle.figures.specs.Rules.{covers}
-use Rattle.figures.specs.Claims.{loads, IsBottleneck}
+use Rattle.figures.specs.Claims.{loads, IsBottleneck, copiedOf}
 use Rattle.figures.specs.Plan.{figuresOf}
 use Rattle.figures.proofs.Covering.{covers-head}
 use Rattle.figures.proofs.Kept.{keeps-parts}
-use Rattle.figures.proofs.Laws.{bottleneck-is, plan-bottleneck}
+use Rattle.figures.proofs.Laws.{bottleneck-is, plan-bottleneck-one, plan-time-one}
 use Rattle.judge.specs.Judge.{judged}
 use Rattle.judge.specs.Timed.{blockTimeAnswer}
 use Rattle.judge.specs.Claims.{AllPass, chain, Passes}
@@ -32,7 +32,7 @@ use Rattle.timetable.specs.Claims.{Tables, Tables.refused, Tables.copied
 use Rattle.timetable.specs.Machine.{Schedule, through, Runs}
 use Rattle.timetable.specs.Stages.{stages}
 use Rattle.timetable.specs.Timetable.{endOf, singleTest}
-use Rattle.timetable.proofs.Bounds.{end-after, end-before, response-alone}
+use Rattle.timetable.proofs.Bounds.{single-first, single-rest, end-after, end-before, response-alone}
 use Rattle.timetable.proofs.Tabled.{end-through, passes-some}
 
 -- each module has one copy
@@ -42,9 +42,14 @@ loads-single c k s t n [] e all x i = absurd (List·Memᴰ·not-nil i)
 loads-single c k s t n (m ∷ ms) e all x i =
     let z = covers-head k t m ms e in
     ⊎-elim
-    (λ d. omega (arith, ap (λ (y : Slowest). y .copies) d, leb-true (m .copies) 1 (all .passes 0 (omega arith)), z .3))
-    (λ l. loads-single c k (m .cores) (m .last + 1) (n + 1) ms (z .5) (record { passes = λ j h. all .passes (suc j) (omega arith) }) x l)
+    (λ d. omega (arith, ap (λ (y : Slowest). y .copies) d, single-first m ms all, z .3))
+    (λ l. loads-single c k (m .cores) (m .last + 1) (n + 1) ms (z .5) (single-rest m ms all) x l)
     (List·Memᴰ·cases-cons i)
+
+single-copied : (ms : List Module) → AllPass singleTest ms → copiedOf ms ≡ 0
+unfolding copiedOf
+single-copied [] all = refl
+single-copied (m ∷ ms) all = rw (le-ltb 1 (m .copies) (single-first m ms all)) (omega (arith, single-copied ms (single-rest m ms all)))
 
 module _ (c : Chain) (ms : List Module) (some : 1 ≤ length ms) (covered : covers (c .tasks) 1 ms ≡ true) (single : AllPass singleTest ms) where
   is-bottleneck : IsBottleneck (loads c 0 1 ms) (bottleneck c ms)
@@ -74,8 +79,8 @@ module _ (c : Chain) (ms : List Module) (some : 1 ≤ length ms) (covered : cove
   end-is n =
       omega (
         arith,
-        end-after c (c .tasks) n ms covered (bottleneck c ms) (is-bottleneck .one),
-        end-before c (c .tasks) (bottleneck c ms .response) n ms covered most-response,
+        end-after c (c .tasks) n ms covered single (bottleneck c ms) (is-bottleneck .one),
+        end-before c (c .tasks) (bottleneck c ms .response) n ms covered single most-response,
       )
 
   pub stream-ends : {t : Schedule} → Runs (stages c ms) t → (n : ℕ) → 1 ≤ n
@@ -84,7 +89,7 @@ module _ (c : Chain) (ms : List Module) (some : 1 ≤ length ms) (covered : cove
   stream-ends r (suc n) h = let e : suc n - 1 ≡ n = omega arith in rw e (end-through c ms some r n ∙ end-is n)
 
   pub bottleneck-alone : bottleneck c ms .response ≤ blockTime c ms
-  bottleneck-alone = response-alone c (c .tasks) ms covered (bottleneck c ms) (is-bottleneck .one)
+  bottleneck-alone = response-alone c (c .tasks) ms covered single (bottleneck c ms) (is-bottleneck .one)
 
 -- n bottlenecks are n - 1 and one
 pub bottlenecks : (n b l : ℕ) → 1 ≤ n → b ≤ l → n * b ≤ (n - 1) * b + l
@@ -105,6 +110,7 @@ judged-copies s w p = ap (λ (a : Answer). a .copies) (passes-figures s w p)
 module _ (s w : List ℕ) (n : ℕ) (table : List ℕ) where
   pub tables-ends : (a : Filled) (after : List ℕ) → Tables s w n table a after → a .refusal ≡ 0 → (b : ℕ) → 1 ≤ b → b ≤ n
       → (getD after (b - 1) 0 ≡ (b - 1) * judged s w .response + blockTimeAnswer s w .count) × (judged s w .response ≤ blockTimeAnswer s w .count) × (judged s w .response ≤ 23000000)
+      × (blockTimeAnswer s w .count ≤ 23000000)
   tables-ends a after (refused x j f) e b l h = absurd (f e)
   tables-ends a after (copied p i f) e b l h = absurd (omega arith)
   tables-ends a after (unasked p all f) e b l h = absurd (omega arith)
@@ -115,7 +121,8 @@ module _ (s w : List ℕ) (n : ℕ) (table : List ℕ) where
       rw (holds .ends b l h, judged-response s w p, time-passed s w p) (
         stream-ends c (p .modules) some covered all r b l,
         bottleneck-alone c (p .modules) some covered all,
-        plan-bottleneck s (readCosts s .board) (accepted-costs s (p .readable .accepted)) (p .modules) (p .keeps),
+        plan-bottleneck-one s (readCosts s .board) (accepted-costs s (p .readable .accepted)) (p .modules) (p .keeps) (omega (arith, bottleneck-single c (p .modules) some covered all)),
+        plan-time-one s (readCosts s .board) (accepted-costs s (p .readable .accepted)) (p .modules) (p .keeps) (single-copied (p .modules) all),
       )
 
   pub tables-single : (a : Filled) (after : List ℕ) → Tables s w n table a after → a .refusal ≡ 0 → judged s w .copies ≡ 1

@@ -19,7 +19,7 @@ use Rattle.figures.specs.Rules.{covers}
 use Rattle.judge.specs.Judge.{judged}
 use Rattle.judge.specs.Timed.{blockTimeAnswer}
 use Rattle.judge.specs.Claims.{AllPass}
-use Rattle.judge.proofs.Laws.{judge-first, block-time-most}
+use Rattle.judge.proofs.Laws.{judge-first}
 use Rattle.timetable.specs.Claims.{Tables}
 use Rattle.timetable.specs.Machine.{Schedule, through, Keeps, Runs, Same, NoLater}
 use Rattle.timetable.specs.Stages.{stages}
@@ -82,7 +82,7 @@ module _ (s w : List ℕ) (n : ℕ) (table : List ℕ) where
     -- each entry, with B as Judge answers it and L as it is answered for the same bytes
     module _ (b : ℕ) (some : 1 ≤ b) (most : b ≤ n) where
       entry : (getD (timetableEntries s w n table) (b - 1) 0 ≡ (b - 1) * judged s w .response + blockTimeAnswer s w .count)
-          × (judged s w .response ≤ blockTimeAnswer s w .count) × (judged s w .response ≤ 23000000)
+          × (judged s w .response ≤ blockTimeAnswer s w .count) × (judged s w .response ≤ 23000000) × (blockTimeAnswer s w .count ≤ 23000000)
       entry = streamed.tables-ends s w n table _ _ said filled b some most
 
       pub timetable-ends : getD (timetableEntries s w n table) (b - 1) 0 ≡ (b - 1) * judged s w .response + blockTimeAnswer s w .count
@@ -96,7 +96,7 @@ module _ (s w : List ℕ) (n : ℕ) (table : List ℕ) where
       pub timetable-most : getD (timetableEntries s w n table) (b - 1) 0 ≤ 23000000000
       timetable-most =
           let few : b - 1 ≤ mostBlocks - 1 = omega (arith, tabled.filled-most s w n table _ _ said filled) in
-          omega (arith, entry .0, mul-le-mul few (entry .2), block-time-most s w)
+          omega (arith, entry .0, mul-le-mul few (entry .2), entry .3)
 
   -- a refusal fills in nothing and leaves the table as lent, whole
   pub timetable-refused : (timetableAnswer s w n table .refusal ≡ 0 → ⊥) → (timetableAnswer s w n table .count ≡ 0) × (timetableEntries s w n table ≡ table)

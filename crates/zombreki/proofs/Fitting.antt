@@ -1,4 +1,4 @@
--- No service answers a response above 23,000,000 ticks, so each answer fits 32-bit numbers: a refusal has none, and a plan that
+-- No service answers a response above 23,000,255 ticks, so each answer fits 32-bit numbers: a refusal has none, and a plan that
 -- keeps the rules of accepted costs is bounded by them. Assumes nothing.
 use mathlib.Core.Path.{_≡_, sym, subst, ap}
 use mathlib.Core.List.{List}
@@ -23,7 +23,7 @@ use Rattle.planners.proofs.Theorems.{judge-same}
 use Rattle.zombreki.specs.Exported.{words}
 
 pub record Small (a : Answer) : Type 0 where
-  pub few : a .response ≤ 23000000
+  pub few : a .response ≤ 23000255
 
 -- an answer that is a small one fits
 pub fits : {a b : Answer} → a ≡ b → Small b → a .response < words

@@ -4,7 +4,7 @@ use mathlib.Core.Path.{_≡_, refl, sym, ap, _∙_}
 use mathlib.Core.Bool.{Bool, true, false, cond, _&&_}
 use mathlib.Core.List.{List, []}
 use mathlib.Core.Logic.{⊎-elim}
-use Prim.Native.Nat.{ℕ, _+_, _-_, _*_, _≤_, _<_}
+use Prim.Native.Nat.{ℕ, _+_, _*_, _≤_, _<_}
 use native.Mathlib.Omega.{arith}
 use lib.ListN.{length, getD}
 use lib.Seq.{getD-take}
@@ -14,7 +14,7 @@ use Rattle.records.specs.declared.Board.{Board}
 use Rattle.records.specs.declared.Reading.{Reading}
 use Rattle.records.specs.Costs.{readCosts}
 use Rattle.records.proofs.Cases.{true-or-false, and-true}
-use Rattle.lookups.specs.Lookups.{within, hasNext, cellOf, needOf, replicableOf, limitOf, executionOf, internalOf, pairOf, externalOf}
+use Rattle.lookups.specs.Lookups.{within, hasNext, cellOf, handOutOf, needOf, replicableOf, limitOf, executionOf, internalOf, pairOf, externalOf}
 use Rattle.lookups.proofs.Inside.{within-bounds, has-next-bounds}
 use Rattle.modules.specs.Model.{chainOf}
 use Rattle.layout.specs.Layout.{planBytes}
@@ -41,6 +41,10 @@ no-pair s b t n = rw n (refl)
 module _ (s head l : List ℕ) (b : Board) (h : Follows s head l b) where
   first-byte : (i : ℕ) → i < 8 * (1 + b .tasks) → getD s i 0 ≡ getD head i 0
   first-byte i u = sym (getD-take (8 * (1 + b .tasks)) s i 0 u) ∙ ap (λ (x : List ℕ). getD x i 0) (h .first-part)
+
+  hand-out-same : handOutOf s ≡ handOutOf head
+  unfolding handOutOf
+  hand-out-same = rw (first-byte 1 (omega arith)) (refl)
 
   need-same : (t : ℕ) → needOf s b t ≡ needOf head b t
   unfolding needOf valueAt
@@ -100,6 +104,7 @@ module _ (s head l : List ℕ) (b : Board) (h : Follows s head l b) where
     tasks = b .tasks;
     board = b .cores;
     capacity = b .capacity;
+    handOut = hand-out-same j;
     need = λ t. need-same t j;
     replicable = λ t. replicable-same t j;
     limit = λ t. limit-same t j;

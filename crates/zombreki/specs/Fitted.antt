@@ -4,7 +4,7 @@ use mathlib.Core.List.{List}
 use Prim.Native.Nat.{ℕ}
 use lib.ListN.{take}
 use Rattle.records.specs.declared.Board.{Board}
-use Rattle.lookups.specs.Lookups.{within, hasNext, needOf, replicableOf, limitOf}
+use Rattle.lookups.specs.Lookups.{within, hasNext, handOutOf, needOf, replicableOf, limitOf}
 use Rattle.modules.specs.Model.{Chain}
 use Rattle.laws.specs.Laws.{lawAt}
 use Rattle.laws.specs.Form.{lawOf}
@@ -15,13 +15,14 @@ use Rattle.fitted.specs.Claims.{executionPlace, internalPlace, externalPlace}
 abbrev pub filledCosts : List ℕ → List ℕ → List ℕ → List ℕ
 filledCosts head l out = take (fillAnswer head l out .count) (fillBytes head l out)
 
--- the chain of a first part of the board b and of laws: needs, flags and limits are the first part's, and each time is its law's value;
--- 0 where there is no such task, pair or number of cores
+-- the chain of a first part of the board b and of laws: D (M-106), needs, flags and limits are the first part's, and each time is its law's
+-- value; 0 where there is no such task, pair or number of cores
 unfoldable pub lawChain : List ℕ → List ℕ → Board → Chain
 lawChain head l b = record {
   tasks = b .tasks;
   board = b .cores;
   capacity = b .capacity;
+  handOut = handOutOf head;
   need = needOf head b;
   replicable = replicableOf head b;
   limit = limitOf head b;

@@ -53,7 +53,7 @@ pub struct LawCase {
 pub fn small(seed: u64) -> LawCase {
     let mut random = Random::new(seed);
     let kind = LAW_KINDS[(seed % LAW_KINDS.len() as u64) as usize];
-    let (tasks, cores) = small_size(1, &mut random);
+    let (tasks, cores) = small_size(1, 1, &mut random);
     made(kind, tasks, cores, seed, random)
 }
 

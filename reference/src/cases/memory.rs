@@ -22,7 +22,7 @@ pub fn set(chain: &mut Chain, kind: Kind, random: &mut Random) {
         Kind::Shares => return set_split(chain, random),
         Kind::BlockTimes => return set_a_core_each(chain, random),
         Kind::NoPlan => board,
-        Kind::Hidden => 0,
+        Kind::Hidden | Kind::Dispatch => 0,
         Kind::TightLimits => board / 3 + random.below(board / 2 + 1),
         _ if random.once_in(3) => 0,
         _ => random.below(board * 2 / 3 + 1),

@@ -1,7 +1,7 @@
 //! Costs with a plan for a timetable (document 02, M-105), from seeds, in kinds that each press on one part of the machine. No
-//! module has copies, and all plans keep the rules.
+//! module has copies, so that a D (M-106) counts for nothing, and all plans keep the rules.
 
-use super::constant;
+use super::{constant, some_dispatch};
 use crate::costs::{self, Chain, MOST_CORES, MOST_TASKS, MOST_VALUE};
 use crate::plan::{self, Module, PLAN_BYTES};
 use crate::random::Random;
@@ -115,6 +115,7 @@ fn made(
     let mut chain = constant(tasks, cores, 0);
     set_times(&mut chain, kind, &mut random);
     set_slow(&mut chain, kind, &modules, &mut random);
+    chain.dispatch = some_dispatch(&mut random);
     StreamCase {
         seed,
         kind,

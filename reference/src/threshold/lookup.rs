@@ -1,13 +1,15 @@
 //! Costs looked up in the bytes of an accepted file, and the sums over a module's tasks, added up anew at each call; and the
 //! reaches, worked out once where they are asked for.
 
-use crate::costs::{MOST_TASKS, RECORD_BYTES};
+use crate::costs::{DISPATCH, MOST_TASKS, RECORD_BYTES};
 
 pub struct Lookup<'a> {
     bytes: &'a [u8],
     pub tasks: usize,
     pub cores: usize,
     pub capacity: u64,
+    /// D of document 02, M-106.
+    pub dispatch: u64,
     /// The reach of each first task (document 02, M-102): at t that of task t + 1. All 0 where they are not asked for.
     reaches: [u8; MOST_TASKS],
 }
@@ -20,6 +22,7 @@ impl<'a> Lookup<'a> {
             tasks: bytes[3].into(),
             cores: bytes[2].into(),
             capacity: 0,
+            dispatch: bytes[DISPATCH].into(),
             reaches: [0; MOST_TASKS],
         };
         costs.capacity = costs.value(0);
@@ -103,6 +106,11 @@ impl<'a> Lookup<'a> {
             sum += self.internal(task, p);
         }
         sum + self.execution(last, p)
+    }
+
+    /// What it takes to hand out to r copies: D if there are several.
+    pub fn dispatch_to(&self, r: usize) -> u64 {
+        if r > 1 { self.dispatch } else { 0 }
     }
 
     /// What each of p cores holds of the task (document 02, M-103): its need ÷ p, rounded up.

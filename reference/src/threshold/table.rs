@@ -12,13 +12,14 @@ struct Place {
     q: usize,
 }
 
-/// The fewest copies that bring the load down to n; 0 where none do.
-fn fewest_copies(replicable: bool, load: u64, n: u64) -> u64 {
-    if load <= n {
+/// The fewest copies that bring a response, which is that of one copy, down to n; 0 where none do. Several copies respond later
+/// (document 02, M-106), so that two may be too slow where one is not.
+fn fewest_copies(costs: &Lookup, replicable: bool, response: u64, n: u64) -> u64 {
+    if response * GRAIN <= n {
         return 1;
     }
     if replicable && n >= 1 {
-        return load.div_ceil(n);
+        return ((response + costs.dispatch) * GRAIN).div_ceil(n);
     }
     0
 }
@@ -53,8 +54,7 @@ fn over_copies(
     fixed: Fixed,
 ) -> u32 {
     let sent = costs.transfer(l, place.q, next);
-    let load = (fixed.base + sent) * GRAIN;
-    let r = fewest_copies(fixed.replicable, load, n);
+    let r = fewest_copies(costs, fixed.replicable, fixed.base + sent, n);
     if r < 1 || r > costs.cores as u64 {
         return none(costs);
     }
@@ -62,7 +62,8 @@ fn over_copies(
     if (costs.cores as u32) < place.s as u32 + cores + next as u32 {
         return none(costs);
     }
-    let price = cores * UNIT + (fixed.stay + sent) as u32;
+    let ticks = fixed.stay + sent + costs.dispatch_to(r as usize);
+    let price = cores * UNIT + ticks as u32;
     none(costs).min(price + read(costs, work, place.q, l, next))
 }
 

@@ -37,16 +37,18 @@ impl Within<'_> {
         }
         let received = self.costs.transfer(first - 1, s, cores);
         let sent = self.costs.transfer(last, cores, q);
-        let response = received + self.costs.body(first, last, cores) + sent;
+        let body = self.costs.body(first, last, cores);
+        let response = received + body + sent + self.costs.dispatch_to(copies);
         response * GRAIN <= self.n * copies as u64
     }
 
-    /// What the module weighs before one of q cores: its cores, its body and what it sends. The board has as many cores, so that this
-    /// fits 32 bits.
+    /// What the module weighs before one of q cores: its cores, its body, what it sends, and what it takes to hand out to its copies.
+    /// The board has as many cores, so that this fits 32 bits.
     fn price(&self, module: Module, q: usize) -> u32 {
         let stay = self.costs.body(module.first, module.last, module.cores);
         let sent = self.costs.transfer(module.last, module.cores, q);
-        (module.copies * module.cores) as u32 * UNIT + (stay + sent) as u32
+        let ticks = stay + sent + self.costs.dispatch_to(module.copies);
+        (module.copies * module.cores) as u32 * UNIT + ticks as u32
     }
 
     /// What is left for a module of q cores and all after it, plus one; 0 where the module that is passed cannot stand before it.

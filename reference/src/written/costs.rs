@@ -4,7 +4,7 @@ use std::fs;
 
 use super::words::{matched, number, numbers, split};
 use crate::cases::constant;
-use crate::costs::{self, Chain, MOST_CORES, MOST_TASKS, RECORD_BYTES};
+use crate::costs::{self, Chain, DISPATCH, MOST_CORES, MOST_TASKS, RECORD_BYTES};
 
 const SMALL_DOCK: &str = concat!(env!("CARGO_MANIFEST_DIR"), "/../examples/small.costs");
 
@@ -110,6 +110,9 @@ pub fn change(bytes: &mut Vec<u8>, text: &str) -> Result<(), String> {
     }
     if let Some([at, value]) = matched("byte # = #", text) {
         return set_byte(bytes, at as usize, value);
+    }
+    if let Some([value]) = matched("D = #", text) {
+        return set_byte(bytes, DISPATCH, value);
     }
     for (at, of_task, of_every) in TASK_BYTES {
         if let Some([task, value]) = matched(of_task, text) {

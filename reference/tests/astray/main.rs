@@ -1,6 +1,7 @@
 //! The tests can fail: wrong planners, each with one mistake that document 01 or 02 names or leaves room for, are told from the
 //! right one by the same files and the same comparison that the library passes.
 
+mod dispatch;
 mod mistakes;
 mod reaches;
 mod times;
@@ -23,7 +24,7 @@ use reference::tally::Tally;
 use reference::written::{self, Line};
 
 /// As many files and as many laws, from seeds, as any mistake needs.
-const FILES: u64 = 900;
+const FILES: u64 = 1_500;
 const LAWS: u64 = 6_000;
 
 /// The service in which the first difference shows, and the file's seed: on accepted files, or else on damaged ones.

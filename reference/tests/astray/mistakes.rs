@@ -1,7 +1,8 @@
 //! The wrong planners: document 01's "Where a plan goes astray", then "Before anyone tests", then mistakes in what is lent, then
-//! those about core limits, about memory and about single-block times; and wrong programs that fill in costs from laws, that find
-//! reaches, or that fill in timetables.
+//! those about core limits, about memory, about single-block times and about handing out to copies; and wrong programs that fill in
+//! costs from laws, that find reaches, or that fill in timetables.
 
+pub mod dispatch;
 mod judges;
 pub mod laws;
 pub mod limits;
@@ -88,6 +89,7 @@ pub fn planners() -> impl Iterator<Item = Mistake> {
     base.chain(reaches::searches::MISTAKES)
         .chain(memory::mistakes())
         .chain(times::mistakes())
+        .chain(dispatch::mistakes())
 }
 
 const MISTAKES: [Mistake; 27] = [

@@ -40,13 +40,15 @@ pub fn whole_loads(chain: &Chain, plan: &[Module]) -> Vec<Load> {
 
 /// Nobody pays for what is received.
 pub fn sender_loads(chain: &Chain, plan: &[Module]) -> Vec<Load> {
-    with_responses(plan, |i| plan[i].body(chain) + plan::sent(chain, plan, i))
+    with_responses(plan, |i| {
+        plan::response(chain, plan, i) - plan::received(chain, plan, i)
+    })
 }
 
 /// Nobody pays for what is sent.
 pub fn receiver_loads(chain: &Chain, plan: &[Module]) -> Vec<Load> {
     with_responses(plan, |i| {
-        plan[i].body(chain) + plan::received(chain, plan, i)
+        plan::response(chain, plan, i) - plan::sent(chain, plan, i)
     })
 }
 

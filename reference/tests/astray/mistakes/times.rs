@@ -27,7 +27,7 @@ pub fn in_ties() -> impl Iterator<Item = Mistake> {
 
 type BlockTime = fn(&[u8], &[u8]) -> Filled;
 
-const fn in_refusal(what: &'static str, block_time: BlockTime) -> Mistake {
+pub const fn in_refusal(what: &'static str, block_time: BlockTime) -> Mistake {
     in_part(what, "block time: refusal", block_time)
 }
 
@@ -35,7 +35,7 @@ const fn in_place(what: &'static str, block_time: BlockTime) -> Mistake {
     in_part(what, "block time: place", block_time)
 }
 
-const fn in_count(what: &'static str, block_time: BlockTime) -> Mistake {
+pub const fn in_count(what: &'static str, block_time: BlockTime) -> Mistake {
     in_part(what, "block time: count", block_time)
 }
 

@@ -7,6 +7,7 @@ use native.Mathlib.Omega.{arith}
 use borrow.Author.Needs.{needs}
 use Rattle.records.proofs.Bounds.{product-of-bytes}
 use Rattle.modules.specs.Model.{chainOf}
+use Rattle.planners.specs.Search.{topThreshold}
 use Rattle.planners.proofs.Fitting.{fits-not, fits-kept-not, fits-within}
 use Rattle.planners.proofs.path.fits_at.Statement.{statement}
 use Rattle.planners.proofs.path.fits_at.Tie as tie
@@ -60,7 +61,7 @@ mul-result c = search needs
 mul-result-2 : tie.Need-mul-result-2
 mul-result-2 c =
     let a = c .before .before .before .before .before .before .before .before .args in
-    let h : a .n * a .r ≤ 23552000000 * 255 = mul-le-mul {n₂ = 23552000000} {m₂ = 255} (omega arith) (omega arith) in
+    let h : a .n * a .r ≤ topThreshold * 255 = mul-le-mul {n₂ = topThreshold} {m₂ = 255} (omega arith) (omega arith) in
     omega arith
 
 returns-5 : tie.Need-returns-5

@@ -28,6 +28,12 @@ add-load c = search needs
 mul-load : tie.Need-mul-load
 mul-load c = search needs
 
+add-several : tie.Need-add-several
+add-several c = search needs
+
+mul-several : tie.Need-mul-several
+mul-several c = search needs
+
 fewest-copies-requires : tie.Need-fewest-copies-requires
 fewest-copies-requires c κs = search needs
 
@@ -82,27 +88,34 @@ returns-3 c =
 add-ticks : tie.Need-add-ticks
 add-ticks c = omega (arith, c .before .before .before .before .before .before .before .before .before .before .pre .2 .taken)
 
+paid-requires : tie.Need-paid-requires
+paid-requires c κs = search needs
+
 cast-ticks : tie.Need-cast-ticks
 cast-ticks c =
-    let o = c .before .before .before .before .before in
+    let o = c .before .before .before .before .before .before in
     let b = o .before .before .before .before .before in
     let few = weighs-few (b .pre .2) _ _ (o .before .transfer .ensures) (o .fewest-copies .ensures) (b .pre .1 .some-cores)
-    (omega arith) (omega arith) (omega arith) (omega arith) 0 (omega arith) in
-    omega arith
+    (omega (arith, c .before .before .before .before .before .if1 .left)) (omega (arith, c .before .if3 .left)) (b .pre .0 .sized .most-cores) (b .pre .1 .threshold) 0 (omega arith) in
+    omega (arith, c .paid .ensures)
+
+add-ticks-2 : tie.Need-add-ticks-2
+add-ticks-2 c = omega (arith, cast-ticks c)
 
 read-table-requires : tie.Need-read-table-requires
 read-table-requires c κs =
-    let b = c .before .before .before .before .before .before .before .before .before .before in
+    let b = c .before .before .before .before .before .before .before .before .before .before .before in
     let inside = reached-inside (b .pre .2 .reached) in
     (b .pre .0, omega arith, omega arith, omega arith, inside, omega arith)
 
 add-lesser-2 : tie.Need-add-lesser-2
 add-lesser-2 c =
-    let o = c .before .before .before .before .before .before in
+    let o = c .before .before .before .before .before .before .before in
     let b = o .before .before .before .before .before in
     let few = weighs-few (b .pre .2) _ _ (o .before .transfer .ensures) (o .fewest-copies .ensures) (b .pre .1 .some-cores)
-    (omega arith) (omega arith) (omega arith) (omega arith) (c .read-table .result) (c .read-table .ensures .1) in
-    omega arith
+    (omega (arith, c .before .before .before .before .before .before .if1 .left)) (omega (arith, c .before .before .if3 .left)) (b .pre .0 .sized .most-cores) (b .pre .1 .threshold)
+    (c .read-table .result) (c .read-table .ensures .1) in
+    omega (arith, c .before .paid .ensures)
 
 add-lesser : tie.Need-add-lesser
 add-lesser c = omega (arith, add-lesser-2 c)
@@ -115,18 +128,19 @@ lesser-requires c κs = search needs
 
 returns-4 : tie.Need-returns-4
 returns-4 c =
-    let o = c .before .before .before .before .before .before .before in
+    let o = c .before .before .before .before .before .before .before .before in
     let b = o .before .before .before .before .before in
     let a = b .args in
     let r = o .fewest-copies .result in
     let none = o .before .before .no-plan in
     let sent = o .before .transfer in
     let rest = c .before .read-table in
-    let some : 1 ≤ r = omega (arith, c .before .before .before .before .before .before .if1 .left) in
-    let room : a .s + r * a .q + a .q2 ≤ a .board .cores = omega (arith, c .before .before .if3 .left) in
+    let out = c .before .before .paid in
+    let some : 1 ≤ r = omega (arith, c .before .before .before .before .before .before .before .if1 .left) in
+    let room : a .s + r * a .q + a .q2 ≤ a .board .cores = omega (arith, c .before .before .before .if3 .left) in
     let e = rest .ensures .0 ∙ read-size (chainOf (a .costs .now) (a .board)) (a .work .now) (a .q) (a .l) (a .q2) in (
-      c .lesser .ensures ∙ rw (none .ensures, e) (copies-some (b .pre .2) _ _ (sent .ensures) (o .fewest-copies .ensures) (b .pre .1 .some-cores) _ some room),
-      omega (arith, lesser-le (none .result) (unit * (r * a .q) + (a .stay + sent .result) + rest .result)),
+      c .lesser .ensures ∙ rw (none .ensures, out .ensures, e) (copies-some (b .pre .2) _ _ (sent .ensures) (o .fewest-copies .ensures) (b .pre .1 .some-cores) _ some room),
+      omega (arith, lesser-le (none .result) (unit * (r * a .q) + (a .stay + sent .result + out .result) + rest .result)),
     )
 
 pub over-copies-spec : {M : Type 1} → statement M
@@ -138,6 +152,8 @@ over-copies-spec =
     cast-sent
     add-load
     mul-load
+    mul-several
+    add-several
     fewest-copies-requires
     returns
     cast-if2
@@ -149,6 +165,8 @@ over-copies-spec =
     add-if3-2
     returns-3
     add-ticks
+    paid-requires
+    add-ticks-2
     cast-ticks
     read-table-requires
     mul-lesser

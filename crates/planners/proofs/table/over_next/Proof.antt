@@ -19,12 +19,12 @@ use Rattle.planners.proofs.table.over_next.Statement.{statement}
 use Rattle.planners.proofs.table.over_next.Tie as tie
 
 abbrev Inv-loop : tie.InvT-loop
-Inv-loop costs board work n s t q l received stay base rep end m₀ i₀ m i =
+Inv-loop costs board work n s t q l received stay base out rep end m₀ i₀ m i =
     let x = problem (chainOf costs board) in
     (1 ≤ i) × (i ≤ end + 1) × (m ≡ least (cap x) i (overCopies x (fitsAt x n) (readTable x work) s t q l))
 
 abbrev μ-loop : tie.MeasureT-loop
-μ-loop costs board work n s t q l received stay base rep end m₀ i₀ m i = end + 1 - i
+μ-loop costs board work n s t q l received stay base out rep end m₀ i₀ m i = end + 1 - i
 
 transfer-requires : tie.Need-transfer-requires Inv-loop μ-loop
 transfer-requires c κs = search needs
@@ -41,6 +41,12 @@ body-requires c κs = search needs
 add-base : tie.Need-add-base Inv-loop μ-loop
 add-base c = omega arith
 
+handed-requires : tie.Need-handed-requires Inv-loop μ-loop
+handed-requires c κs = search needs
+
+cast-out : tie.Need-cast-out Inv-loop μ-loop
+cast-out c = search needs
+
 add-copies-allowed : tie.Need-add-copies-allowed Inv-loop μ-loop
 add-copies-allowed c = omega arith
 
@@ -49,13 +55,14 @@ copies-allowed-requires c κs = search needs
 
 over-copies-requires : tie.Need-over-copies-requires Inv-loop μ-loop
 over-copies-requires c κs =
-    let b = c .before .before .before .before .before .before .before in
-    let z = c .before .before .before .before .transfer in
-    (b .pre .0, b .pre .1, loaded (b .pre .2) (b .pre .3) (z .ensures) (omega arith) (c .before .before .before .body .ensures) (c .before .before .copies-allowed .ensures), omega arith)
+    let d = c .before .before in
+    let b = d .before .before .before .before .before .before in
+    let z = d .before .before .before .transfer in
+    (b .pre .0, b .pre .1, loaded (b .pre .2) (b .pre .3) (z .ensures) (omega arith) (d .before .before .body .ensures) (d .before .handed .ensures) (omega arith) (d .copies-allowed .ensures), omega arith)
 
 returns : tie.Need-returns Inv-loop μ-loop
 returns c =
-    let a = c .before .before .before .before .before .before .before .before .args in
+    let a = c .before .before .before .before .before .before .before .before .before .args in
     let x = problem (chainOf (a .costs .now) (a .board)) in
     (c .over-copies .ensures .0 ∙ sym (next-last x (a .n) (a .work .now) (a .s) (a .t) (a .q) (a .l) (omega arith)), c .over-copies .ensures .1)
 
@@ -70,7 +77,7 @@ no-plan-requires c κs = search needs
 
 loop-holds : tie.Need-loop-holds Inv-loop μ-loop
 loop-holds c =
-    let b = c .before .before .before .before .before .before .before .before .before in
+    let b = c .before .before .before .before .before .before .before .before .before .before in
     let a = b .args in
     let k = chainOf (a .costs .now) (a .board) in
     (omega arith, omega arith, c .no-plan .ensures ∙ sym (chain-cap k) ∙ next-start (problem k) (a .n) (a .work .now) (a .s) (a .t) (a .q) (a .l) (omega (arith, reached-inside (b .pre .2))))
@@ -78,8 +85,9 @@ loop-holds c =
 over-copies-requires-2 : tie.Need-over-copies-requires-2 Inv-loop μ-loop
 over-copies-requires-2 c κs =
     let d = c .before .before .before .before .before .before in
-    let b = d .before .before .before .before .before in
-    (b .pre .0, b .pre .1, loaded (b .pre .2) (b .pre .3) (d .before .before .transfer .ensures) (omega arith) (d .before .body .ensures) (d .copies-allowed .ensures), omega arith)
+    let b = d .before .before .before .before .before .before in
+    let z = d .before .before .before .transfer in
+    (b .pre .0, b .pre .1, loaded (b .pre .2) (b .pre .3) (z .ensures) (omega arith) (d .before .before .body .ensures) (d .before .handed .ensures) (omega arith) (d .copies-allowed .ensures), omega arith)
 
 lesser-requires : tie.Need-lesser-requires Inv-loop μ-loop
 lesser-requires c κs = search needs
@@ -95,7 +103,7 @@ loop-again c = (omega arith, omega arith, least-more _ _ _ _ _ (c .before .befor
 
 returns-2 : tie.Need-returns-2 Inv-loop μ-loop
 returns-2 c =
-    let a = c .before .before .before .before .before .before .before .before .before .before .before .args in
+    let a = c .before .before .before .before .before .before .before .before .before .before .before .before .args in
     let k = chainOf (a .costs .now) (a .board) in
     let e = next-end (problem k) (a .n) (a .work .now) (a .s) (a .t) (a .q) (a .l) _ _ (omega arith) (omega arith) (c .before .loop .inv .2) in
     (e, least-most k _ _ _ (c .before .loop .inv .2))
@@ -111,6 +119,8 @@ over-next-spec =
     add-body
     body-requires
     add-base
+    handed-requires
+    cast-out
     add-copies-allowed
     copies-allowed-requires
     over-copies-requires

@@ -18,23 +18,11 @@ returns c = simp (← (c .before .before .byte-at .ensures .0), ne-eqb _ _ (c .b
 byte-at-requires-2 : tie.Need-byte-at-requires-2
 byte-at-requires-2 c κs = search needs
 
-refuse-requires-2 : tie.Need-refuse-requires-2
-refuse-requires-2 c κs = search needs
-
-returns-2 : tie.Need-returns-2
-unfolding headMeets readHead
-returns-2 c =
-    simp (← (c .before .before .before .before .byte-at .ensures .0), eq-eqb _ _ (c .before .before .before .if1 .left), ← (c .before .before .byte-at2 .ensures .0), ne-eqb _ _ (c .before .if2 .taken))
-    (c .refuse2 .ensures)
-
-byte-at-requires-3 : tie.Need-byte-at-requires-3
-byte-at-requires-3 c κs = search needs
-
 cast-cores : tie.Need-cast-cores
 cast-cores c = search needs
 
-byte-at-requires-4 : tie.Need-byte-at-requires-4
-byte-at-requires-4 c κs = search needs
+byte-at-requires-3 : tie.Need-byte-at-requires-3
+byte-at-requires-3 c κs = search needs
 
 cast-tasks : tie.Need-cast-tasks
 cast-tasks c = search needs
@@ -45,45 +33,39 @@ value-at-requires c κs = search needs
 board-meets-requires : tie.Need-board-meets-requires
 board-meets-requires c κs = search needs
 
-refuse-requires-3 : tie.Need-refuse-requires-3
-refuse-requires-3 c κs = search needs
+refuse-requires-2 : tie.Need-refuse-requires-2
+refuse-requires-2 c κs = search needs
+
+returns-2 : tie.Need-returns-2
+unfolding headMeets readHead
+returns-2 c =
+    let read = c .before .before in
+    let first = read .before .before .before in
+    simp (
+      ← (first .before .byte-at .ensures .0),
+      eq-eqb _ _ (first .if1 .left),
+      ← (read .before .before .byte-at2 .ensures .0),
+      ← (read .before .byte-at3 .ensures .0),
+      ← (read .value-at .ensures),
+      ← (c .before .board-meets .ensures),
+      c .if2 .taken,
+    )
 
 returns-3 : tie.Need-returns-3
 unfolding headMeets readHead
 returns-3 c =
-    let read = c .before .before in
-    let second = read .before .before .before in
-    let first = second .before .before in
-    simp (
-      ← (first .before .byte-at .ensures .0),
-      eq-eqb _ _ (first .if1 .left),
-      ← (second .before .byte-at2 .ensures .0),
-      eq-eqb _ _ (second .if2 .left),
-      ← (read .before .before .byte-at3 .ensures .0),
-      ← (read .before .byte-at4 .ensures .0),
-      ← (read .value-at .ensures),
-      ← (c .before .board-meets .ensures),
-      c .if3 .taken,
-    )
-
-returns-4 : tie.Need-returns-4
-unfolding headMeets readHead
-returns-4 c =
     let read = c .before .before .before in
-    let second = read .before .before .before in
-    let first = second .before .before in
+    let first = read .before .before .before in
     simp (
       ← (first .before .byte-at .ensures .0),
       eq-eqb _ _ (first .if1 .left),
-      ← (second .before .byte-at2 .ensures .0),
-      eq-eqb _ _ (second .if2 .left),
-      ← (read .before .before .byte-at3 .ensures .0),
-      ← (read .before .byte-at4 .ensures .0),
+      ← (read .before .before .byte-at2 .ensures .0),
+      ← (read .before .byte-at3 .ensures .0),
       ← (read .value-at .ensures),
       ← (c .before .before .board-meets .ensures),
-      c .before .if3 .left,
+      c .before .if2 .left,
     )
-    (c .refuse3 .ensures)
+    (c .refuse2 .ensures)
 
 pub read-head-spec : {M : Type 1} → statement M
 read-head-spec =
@@ -93,14 +75,11 @@ read-head-spec =
     refuse-requires
     returns
     byte-at-requires-2
-    refuse-requires-2
-    returns-2
-    byte-at-requires-3
     cast-cores
-    byte-at-requires-4
+    byte-at-requires-3
     cast-tasks
     value-at-requires
     board-meets-requires
-    refuse-requires-3
-    returns-3
-    returns-4)
+    refuse-requires-2
+    returns-2
+    returns-3)

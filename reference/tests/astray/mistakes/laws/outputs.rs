@@ -4,10 +4,10 @@ use super::bounds::is_within_limits;
 use super::refusals::{all_values, as_read};
 use super::{Mistake, in_count, in_output};
 use reference::answer::Filled;
-use reference::costs::{Key, RECORD_BYTES};
+use reference::costs::{DISPATCH, Key, RECORD_BYTES};
 use reference::laws::fill_costs;
 
-pub const MISTAKES: [Mistake; 19] = [
+pub const MISTAKES: [Mistake; 20] = [
     // "answers how many bytes or entries it filled"
     in_count("the count is in records", count_of_records),
     in_count("the count leaves the first part out", count_of_times),
@@ -18,6 +18,9 @@ pub const MISTAKES: [Mistake; 19] = [
     }),
     in_output("limits are zeroed", |head, laws, out| {
         with_zero_at(3, head, laws, out)
+    }),
+    in_output("D is zeroed", |head, laws, out| {
+        changing(|_, filled| filled[DISPATCH] = 0, head, laws, out)
     }),
     in_output("the first part is not filled in", without_head),
     in_output("nothing is filled in", left_blank),

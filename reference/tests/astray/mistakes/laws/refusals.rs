@@ -1,19 +1,23 @@
 //! Programs that refuse in a wrong order, or with a wrong place or number.
 
 use super::{Mistake, in_count, in_place, in_refusal};
+use crate::mistakes::dispatch::readers::former;
 use reference::answer::{Filled, Refusal};
 use reference::cases;
 use reference::costs::{self, MOST_TASKS, RECORD_BYTES};
 use reference::laws::{self, LAW_BYTES, Law, fill_costs};
 use reference::round::laws::full_bytes;
 
-pub const MISTAKES: [Mistake; 17] = [
+pub const MISTAKES: [Mistake; 18] = [
     // "it refuses, after 1 to 6 on the first part (there 4 asks for 1 + k records)"
     in_refusal("17 before 1 to 6", (6, 17), laws_first),
     in_refusal("4 before 3", (3, 4), count_first),
     in_refusal("4 asks for the full set", (0, 4), full_set_due),
     in_refusal("more records than 1 + k", (4, 0), longer_head),
     in_refusal("a limit is refused with 5", (0, 5), limit_with_5),
+    in_refusal("2 for a D other than 0", (0, 2), |head, laws, out| {
+        former(head).map_or_else(|| fill_costs(head, laws, out), Into::into)
+    }),
     in_place("the place of 5 and 6 is counted from 0", place_from_0),
     // "a wrong length, field or form with 17, a value above 1,000,000 with 18, a short output with 19, in that order"
     in_refusal("17 and 18 law by law", (17, 18), law_by_law),

@@ -1,11 +1,12 @@
 //! Programs that find every reach of the chain's tasks, and go wrong with other first tasks or with costs that are refused.
 
 use super::{Mistake, in_count, in_place, in_refusal};
+use crate::mistakes::dispatch::readers::former;
 use reference::answer::{Filled, Refusal};
 use reference::costs::{self, Chain, RECORD_BYTES};
 use reference::reach::{reach, reach_by, reach_of, reach_on};
 
-pub const MISTAKES: [Mistake; 12] = [
+pub const MISTAKES: [Mistake; 13] = [
     // "each first task": those of the chain
     in_count("0 is taken for task 1", |costs, first| {
         reach(costs, first.max(1))
@@ -39,6 +40,9 @@ pub const MISTAKES: [Mistake; 12] = [
     in_refusal("0 for task 0 of refused costs", (6, 0), zero_first),
     in_refusal("records of times are not tested", (5, 0), tasks_tested),
     in_refusal("a limit is refused with 5", (0, 5), limit_with_5),
+    in_refusal("2 for a D other than 0", (0, 2), |costs, first| {
+        former(costs).map_or_else(|| reach(costs, first), Into::into)
+    }),
 ];
 
 /// The service with another number for first tasks above k.

@@ -4,7 +4,7 @@ use crate::mistakes::judges::sender_loads;
 use reference::costs::Chain;
 use reference::plan::{self, Module, block_time, module_of, transfer};
 
-/// What this makes of each module's part of the right time, its body and what it sends, and of its copies, added up.
+/// What this makes of each module's part of the right time, all of its response but what it receives, and of its copies, added up.
 fn of_parts(chain: &Chain, plan: &[Module], of_part: impl Fn(u32, u32) -> u32) -> u32 {
     let parts = sender_loads(chain, plan);
     let parts = parts.iter().map(|part| of_part(part.response, part.copies));
@@ -46,9 +46,14 @@ fn at_cores(chain: &Chain, plan: &[Module], cores: impl Fn(&Module) -> usize) ->
     block_time(chain, &plan)
 }
 
-pub fn without_executions(chain: &Chain, plan: &[Module]) -> u32 {
+fn transfers(chain: &Chain, plan: &[Module]) -> u32 {
     let tasks = 1..chain.tasks;
     tasks.map(|task| transfer(chain, plan, task)).sum()
+}
+
+pub fn without_executions(chain: &Chain, plan: &[Module]) -> u32 {
+    let execution = |task| chain.execution(task, module_of(plan, task).cores);
+    block_time(chain, plan) - (1..=chain.tasks).map(execution).sum::<u32>()
 }
 
 pub fn without_first(chain: &Chain, plan: &[Module]) -> u32 {
@@ -68,7 +73,8 @@ pub fn without_internals(chain: &Chain, plan: &[Module]) -> u32 {
 }
 
 pub fn without_externals(chain: &Chain, plan: &[Module]) -> u32 {
-    plan.iter().map(|module| module.body(chain)).sum()
+    let sent = |i| plan::sent(chain, plan, i);
+    block_time(chain, plan) - (0..plan.len()).map(sent).sum::<u32>()
 }
 
 pub fn all_external(chain: &Chain, plan: &[Module]) -> u32 {
@@ -86,7 +92,7 @@ pub fn responses(chain: &Chain, plan: &[Module]) -> u32 {
 }
 
 pub fn transfers_twice(chain: &Chain, plan: &[Module]) -> u32 {
-    block_time(chain, plan) + without_executions(chain, plan)
+    block_time(chain, plan) + transfers(chain, plan)
 }
 
 pub fn on_one_core(chain: &Chain, plan: &[Module]) -> u32 {

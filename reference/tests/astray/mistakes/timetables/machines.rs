@@ -15,7 +15,7 @@ macro_rules! by_way {
     };
 }
 
-pub const MISTAKES: [Mistake; 12] = [
+pub const MISTAKES: [Mistake; 13] = [
     // "a module receives, executes, sends, then turns to the next block"
     by_way!("receives once it has executed", receives: of_executed),
     by_way!("turns when its transfer starts", turns: |sending| sending.start),
@@ -33,6 +33,8 @@ pub const MISTAKES: [Mistake; 12] = [
     by_way!("internal transfers left out", execution: of_tasks),
     by_way!("receiver and sender exchanged", transfer: exchanged),
     by_way!("an external transfer as internal", transfer: internal),
+    // "rises by D if its r is above 1" (M-106)
+    by_way!("D for every module", execution: handed_out),
 ];
 
 /// What a module did with the block before: the ticks at which it had executed it, and turned to the next one.
@@ -128,6 +130,11 @@ fn sent_by_first(chain: &Chain, plan: &[Module]) -> u64 {
 fn of_tasks(chain: &Chain, module: &Module) -> u32 {
     let tasks = module.first..=module.last;
     tasks.map(|task| chain.execution(task, module.cores)).sum()
+}
+
+/// As if the one copy had to be picked.
+fn handed_out(chain: &Chain, module: &Module) -> u32 {
+    module.body(chain) + u32::from(chain.dispatch)
 }
 
 fn exchanged(chain: &Chain, from: &Module, to: &Module) -> u32 {

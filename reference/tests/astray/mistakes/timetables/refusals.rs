@@ -1,13 +1,14 @@
 //! Programs that go by the right machine, and go wrong with the number of a refusal or with its place.
 
 use super::{Mistake, in_place, in_refusal};
+use crate::mistakes::dispatch::readers::former;
 use crate::mistakes::judges::judged_modules;
 use reference::answer::{Filled, Refusal};
 use reference::block_time::block_time;
 use reference::plan::{self, Module, PLAN_BYTES};
 use reference::timetable::{MOST_BLOCKS, ends, timetable};
 
-pub const MISTAKES: [Mistake; 19] = [
+pub const MISTAKES: [Mistake; 20] = [
     // "it refuses, after Judge's refusals, a plan with copies with 20 (place the module)"
     in_refusal("20 before Judge's of the plan", (13, 20), copies_first),
     in_refusal("copies are not refused", (20, 0), of_any_copies),
@@ -70,6 +71,14 @@ pub const MISTAKES: [Mistake; 19] = [
     }),
     // "bytes after the 48th are never read" (document 01)
     in_refusal("bytes behind the 48th are to be zero", (0, 12), all_bytes),
+    // "refusal 2 tests the kind only" (M-106)
+    in_refusal(
+        "2 for a D other than 0",
+        (0, 2),
+        |costs, plan, blocks, table| {
+            former(costs).map_or_else(|| timetable(costs, plan, blocks, table), Into::into)
+        },
+    ),
 ];
 
 fn has_room(blocks: u32, table: &[u64]) -> bool {
