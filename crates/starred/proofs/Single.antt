@@ -17,21 +17,19 @@ use Rattle.modules.specs.Rules.{share, shares, memoryFits, tighter, limitFrom, 
 use Rattle.layout.specs.Layout.{recordOf, countFrom, moduleCount, modulesFrom, modulesOf, putModule}
 use Rattle.figures.specs.Model.{responses, coresOf, slowerOf, slowestFrom, bottleneck, blockTime}
 use Rattle.figures.specs.Plan.{figuresOf, responseAt}
-use Rattle.search.specs.Least.{pick}
-use Rattle.search.specs.Copies.{enough, fewest as fewest-copies}
 use Rattle.starred.specs.Dock.{smallDock, fixedDock, copyingDock}
 use Rattle.starred.specs.Cases.{figures, one, two}
 
 -- the numbers 0 to 5
-abbrev few : List ℕ
+abbrev pub few : List ℕ
 few = 0 ∷ 1 ∷ 2 ∷ 3 ∷ 4 ∷ 5 ∷ []
 
 -- ---- the small dock, on so many cores of a capacity
 
-abbrev board : (cores capacity : ℕ) → Board
+abbrev pub board : (cores capacity : ℕ) → Board
 board cores capacity = record { tasks = 2; cores = cores; capacity = capacity }
 
-abbrev dock : Chain
+abbrev pub dock : Chain
 dock = chainOf smallDock (board 4 100)
 
 -- 1,000,000 as the value whose lowest byte that is
@@ -175,42 +173,6 @@ between :
     × (response dock 3 1 2 1 2 3 ≡ 18)
 unfolding handOutOf valueAt within hasNext cellOf executionOf internalOf pairPlace pairOf externalOf run gather body transfer handed response smallDock
 between = (refl, refl, refl, refl, refl, refl, refl, refl, refl)
-
--- ---- M-106: what handing out costs
-
-hand-outs : map handOutOf (smallDock ∷ copyingDock 10 ∷ copyingDock 255 ∷ [] ∷ (1 ∷ []) ∷ (1 ∷ 9 ∷ []) ∷ []) ≡ 0 ∷ 10 ∷ 255 ∷ 0 ∷ 0 ∷ 9 ∷ []
-unfolding handOutOf smallDock copyingDock
-hand-outs = refl
-
-abbrev copying : Chain
-copying = chainOf (copyingDock 10) (board 4 100)
-
--- 0 to 5 copies: D if r is above 1, once however many they are; and so in a response and in what a module adds to the time of a block
-handed-out :
-    (map (handed copying) few ≡ 0 ∷ 0 ∷ 10 ∷ 10 ∷ 10 ∷ 10 ∷ [])
-    × (map (handed dock) few ≡ replicate 6 0)
-    × (map (λ r. response copying 0 1 1 r 1 2) few ≡ 14 ∷ 14 ∷ 24 ∷ 24 ∷ 24 ∷ 24 ∷ [])
-    × (map (λ r. response copying 1 2 2 r 2 0) few ≡ 12 ∷ 12 ∷ 22 ∷ 22 ∷ 22 ∷ 22 ∷ [])
-    × (map (λ r. passage copying 2 2 r 2 0) few ≡ 10 ∷ 10 ∷ 20 ∷ 20 ∷ 20 ∷ 20 ∷ [])
-unfolding handOutOf valueAt within hasNext cellOf executionOf internalOf pairPlace pairOf externalOf run gather body transfer handed response passage smallDock copyingDock
-handed-out = (refl, refl, refl, refl, refl)
-
--- at a threshold of 5 one copy is enough, two are not, and three are again: a load of 5, and of 12 where handing out costs 7
-copies-enough : (map (enough true 5 12 5) few ≡ false ∷ true ∷ false ∷ true ∷ true ∷ true ∷ []) × (fewest-copies true 5 12 5 ≡ 1) × (fewest-copies true 6 13 5 ≡ 3)
-unfolding roundedUp pick fewest-copies
-copies-enough = (refl, refl, refl)
-
--- of plans: D before the division, for each module with copies
-copying-plans :
-    (figuresOf copying (modulesOf (one 1 2 2 2) 2) ≡ figures 1 4 1 28 2)
-    × (figuresOf copying (modulesOf (one 1 2 1 4) 2) ≡ figures 1 4 1 11 1)
-    × (figuresOf copying (modulesOf (two 1 1 2 1 2 2 1 2) 2) ≡ figures 2 4 1 24 2)
-    × (blockTime copying (modulesOf (one 1 2 2 2) 2) ≡ 28)
-    × (blockTime copying (modulesOf (one 1 2 1 4) 2) ≡ 11)
-    × (blockTime copying (modulesOf (two 1 1 2 1 2 2 1 2) 2) ≡ 34)
-    × (blockTime copying (modulesOf (two 1 1 2 1 2 2 3 2) 2) ≡ 44)
-unfolding handOutOf valueAt within hasNext cellOf executionOf internalOf pairPlace pairOf externalOf run gather body transfer handed response passage countFrom moduleCount modulesFrom modulesOf coresOf slowerOf slowestFrom bottleneck figuresOf blockTime smallDock copyingDock
-copying-plans = (refl, refl, refl, refl, refl, refl, refl)
 
 -- ---- plans of it: figures are no judgement
 
