@@ -2,19 +2,22 @@
 -- the single-block time of what it passes (M-104): the laws that a reader looks for. The definitions are in specs/Judge and specs/Timed;
 -- specs/Claims has the direct statements. Assumes nothing.
 use mathlib.Core.Path.{_≡_, ap, _∙_}
-use mathlib.Core.Bool.{Bool}
+use mathlib.Core.Bool.{Bool, true}
 use mathlib.Core.List.{List}
 use mathlib.Core.Logic.{_↔_}
 use Prim.Native.Nat.{ℕ, _+_, _≤_}
 use lib.ListN.{length, take}
 use Rattle.records.specs.declared.Filled.{Filled}
 use Rattle.modules.specs.declared.Module.{Module}
+use Rattle.modules.specs.Model.{Chain}
 use Rattle.layout.specs.Layout.{mostModules, planBytes, modulesOf, encodePlan}
 use Rattle.figures.specs.declared.Answer.{Answer}
+use Rattle.figures.specs.Rules.{keepsRules}
 use Rattle.figures.specs.Plan.{figuresOf}
-use Rattle.judge.specs.Judge.{shapeFault, firstFailing, judged}
+use Rattle.judge.specs.Judge.{shapeFault, firstFailing, judgedBytes, judged}
 use Rattle.judge.specs.Timed.{blockTimeAnswer}
 use Rattle.judge.specs.Claims.{AllPass, FailsAt, chain, Judges, Passes, Times}
+use Rattle.judge.proofs.Bytes as bytes
 use Rattle.judge.proofs.Faults as faults
 use Rattle.judge.proofs.Passing as passing
 use Rattle.judge.proofs.Reading as reading
@@ -36,6 +39,12 @@ module _ (s w : List ℕ) where
   -- "Bytes after the 48th are never read": the answer is that on the first 48 bytes
   pub judge-first : judged s (take planBytes w) ≡ judged s w
   judge-first = reading.judge-first s w
+
+-- ---- on costs that were read before, of any chain: bytes that are passed say a plan that keeps the rules, and the answer is its figures
+
+pub bytes-pass : (c : Chain) (w : List ℕ) → judgedBytes c w .number ≡ 0
+    → (keepsRules c (modulesOf w (c .tasks)) ≡ true) × (judgedBytes c w ≡ figuresOf c (modulesOf w (c .tasks)))
+bytes-pass = bytes.bytes-pass
 
 -- ---- M-104: the single-block time of the plan that Judge passes, else Judge's refusal with its place and count 0
 

@@ -30,7 +30,7 @@ use Rattle.judge.proofs.Shapes.{shape-plan, plan-shape}
 -- ---- what a plan keeps, module by module
 
 module _ (c : Chain) where
-  all-allowed : (ms : List Module) → AllPass (copiesTest c) ms → AllPass (memoryTest c) ms → AllPass (limitTest c) ms → eachAllowed c ms ≡ true
+  pub all-allowed : (ms : List Module) → AllPass (copiesTest c) ms → AllPass (memoryTest c) ms → AllPass (limitTest c) ms → eachAllowed c ms ≡ true
   unfolding eachAllowed moduleRules
   all-allowed [] x y z = refl
   all-allowed (m ∷ ms) x y z =

@@ -6,4 +6,5 @@ mod verdict;
 
 pub use timed::block_time;
 pub use verdict::judge;
+pub use verdict::judge_bytes;
 pub use verdict::limit_fault;

@@ -147,8 +147,8 @@ fn judge_plan(costs: &[u8], board: Board, plan: &[u8]) -> Answer
     figures::figures(costs, board, plan)
 }
 
-// The plan bytes, refusals 7 and 12, and what follows.
-fn judge_bytes(costs: &[u8], board: Board, plan: &[u8]) -> Answer
+// Judge on costs that were read before, for every slice and board: refusals 7 and 12 to 16, or the figures.
+pub fn judge_bytes(costs: &[u8], board: Board, plan: &[u8]) -> Answer
     ensures { λ r. ⌜ r ≡ judgedBytes (chainOf (now (costs .entry)) board) (now (plan .entry)) ⌝ }
 {
     if plan.len() < PLAN_BYTES {

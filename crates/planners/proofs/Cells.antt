@@ -1,7 +1,7 @@
 -- The table of a chain as the planner computes it: what it reads depends on the board's size alone, the least over the copies is
 -- one division, and last tasks past the first at which a module of one copy breaks a rule, or past its reach, add nothing. By the
 -- search's laws at the problem of a chain. Assumes nothing.
-use mathlib.Core.Path.{_≡_, refl, sym, _∙_, ap}
+use mathlib.Core.Path.{_≡_, refl, sym, _∙_}
 use mathlib.Core.Bool.{Bool, true, false, cond, _&&_, _||_}
 use mathlib.Core.List.{List}
 use mathlib.Core.Logic.{⊎-elim}
@@ -13,9 +13,9 @@ use lib.Dec.{T, ltb, leb, leb→le, le→leb, not-T}
 use Rattle.records.specs.declared.Board.{Board}
 use Rattle.records.proofs.Cases.{lt-or-le, true-not-false, false-unless}
 use Rattle.modules.specs.Model.{Chain, response, transfer, handed, body}
-use Rattle.modules.specs.Rules.{share, shares, moduleRules, stillKept, copiesAllowed}
+use Rattle.modules.specs.Rules.{moduleRules, copiesAllowed}
 use Rattle.modules.specs.Reach.{reach}
-use Rattle.modules.proofs.Laws.{passage-parts, response-passage, handed-none, handed-rises, shares-more, rules-drop, rules-apart, rules-longer, rules-reach}
+use Rattle.modules.proofs.Laws.{passage-parts, handed-none, handed-rises, rules-drop, rules-apart, rules-reach}
 use Rattle.search.specs.Least.{pick, lesser, least}
 use Rattle.search.specs.Copies.{loadOf, fewest}
 use Rattle.search.specs.Plan.{cap}
@@ -29,8 +29,10 @@ use Rattle.search.proofs.Loops.{overCopies-none}
 use Rattle.search.proofs.Copies.{fewest-enough}
 use Rattle.search.proofs.Cheapest.{overCopies-at}
 use Rattle.search.proofs.Tiers.{tiered-rises}
-use Rattle.planners.specs.Search.{grain, unit, ticks, price, problem, ofSize, noPlan, topThreshold, Sized, Holds, Reached, Loaded}
-use Rattle.planners.proofs.Instance.{problem-tiered}
+use Rattle.slack.specs.Problem.{grain, unit, ticks, price, problem, topThreshold, Sized, Reached}
+use Rattle.planners.specs.Search.{ofSize, noPlan, Holds, Loaded}
+use Rattle.slack.proofs.Chain.{response-parts}
+use Rattle.slack.proofs.Instance.{problem-tiered}
 use Rattle.planners.proofs.Fitting.{reached-inside}
 use Rattle.planners.proofs.Copies.{copies-allow, copies-load}
 
@@ -69,13 +71,6 @@ holds-set {b} {w} h i v l g = record {
 }
 
 -- ---- one module in its place
-
--- what it receives, its body, what it sends and what handing out costs (M-106)
-pub response-parts : (c : Chain) (s t l r p q : ℕ)
-    → response c s (t + 1) l r p q ≡ transfer c t s p + body c (t + 1) l p + transfer c l p q + handed c r
-response-parts c s t l r p q =
-    let e : transfer c (t + 1 - 1) s p ≡ transfer c t s p = ap (λ (i : ℕ). transfer c i s p) (omega arith) in
-    omega (arith, response-passage c (t + 1) l r p q s, passage-parts c (t + 1) l r p q)
 
 -- what is known of it once it is summed up and two copies are asked for
 pub loaded : {c : Chain} {s t q l received stay out : ℕ} {rep : Bool} → Reached c t l → moduleRules c (t + 1) l 1 q ≡ true → received ≡ transfer c t s q
@@ -161,12 +156,6 @@ module _ {c : Chain} {s t q l base stay out : ℕ} {rep : Bool} (h : Loaded c s 
         sym (cheapest ∙ pick-yes (a && b) _ _ (and-i a b (le→leb 1 r u) (le→leb (s + r * q + q′) (c .board) v)))
 
 -- ---- over the last task
-
--- what is answered of the sum so far and the last task's share (M-103) says whether the module keeps the rules with that task too
-pub kept-longer : (c : Chain) (t l q sum added : ℕ) {kept : Bool} → t + 1 ≤ l → sum ≡ shares c (t + 1) (l - 1) q → added ≡ share c l q
-    → moduleRules c (t + 1) (l - 1) 1 q ≡ true → kept ≡ stillKept c l q (sum + added) → kept ≡ moduleRules c (t + 1) l 1 q
-kept-longer c t l q sum added h e f before asked =
-    asked ∙ ap (stillKept c l q) (omega (arith, e, f, shares-more c (t + 1) l q (omega arith) h)) ∙ rules-longer c (t + 1) l q h before
 
 module _ (c : Chain) (n s t q : ℕ) (rest : Table) where
   -- nothing comes of a last task at which the module breaks a rule in one copy

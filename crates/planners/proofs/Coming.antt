@@ -23,7 +23,8 @@ use Rattle.search.proofs.Loops.{choice-needs}
 use Rattle.search.proofs.Fill.{choice-read}
 use Rattle.search.proofs.Steps.{chosen-found}
 use Rattle.planners.specs.declared.path.Passed.{Passed}
-use Rattle.planners.specs.Search.{price, problem, Reached, roomOf, mayCome, FirstCopies, SomeNext}
+use Rattle.slack.specs.Problem.{price, problem, Reached}
+use Rattle.planners.specs.Search.{roomOf, mayCome, FirstCopies, SomeNext}
 use Rattle.planners.proofs.Fitting.{fits-facts, fits-reached, reached-inside}
 
 -- what the walk may choose ends within its reach (M-102), whatever table and room it goes by

@@ -18,7 +18,7 @@ use Rattle.search.specs.Best.{fitsAt}
 use Rattle.search.proofs.Tests.{bool-eq}
 use Rattle.search.proofs.Least.{pick-yes, pick-no}
 use Rattle.search.proofs.Cheapest.{fewest-fit}
-use Rattle.planners.specs.Search.{grain, price, problem}
+use Rattle.slack.specs.Problem.{grain, price, problem}
 use Rattle.planners.proofs.Fitting.{fits-facts}
 
 module _ (c : Chain) (s t l p q : ℕ) where

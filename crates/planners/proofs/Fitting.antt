@@ -15,7 +15,8 @@ use Rattle.modules.specs.Model.{Chain, response}
 use Rattle.modules.specs.Rules.{moduleRules}
 use Rattle.modules.proofs.Laws.{reach-inside, rules-reach}
 use Rattle.search.specs.Best.{fitsAt}
-use Rattle.planners.specs.Search.{grain, problem, Reached, EachReach}
+use Rattle.slack.specs.Problem.{grain, problem, Reached}
+use Rattle.planners.specs.Search.{EachReach}
 
 -- a module that ends within its reach ends in the chain
 pub reached-inside : {c : Chain} {t l : ℕ} → Reached c t l → l ≤ c .tasks

@@ -20,10 +20,11 @@ use Rattle.search.specs.Loops.{Walking}
 use Rattle.search.proofs.Tests.{bool-eq}
 use Rattle.search.proofs.Steps.{walking-start, walking-end, chosen-bounds, chosen-passes, walking-next}
 use Rattle.planners.specs.declared.path.Passed.{Passed}
-use Rattle.planners.specs.Search.{price, problem, noPlan, Reached, PassedReached, roomOf, SomeNext}
+use Rattle.slack.specs.Problem.{price, problem, Reached}
+use Rattle.planners.specs.Search.{noPlan, PassedReached, roomOf, SomeNext}
 use Rattle.planners.proofs.Cells.{chain-cap}
 use Rattle.planners.proofs.Coming.{choice-reached, read-choice}
-use Rattle.planners.proofs.Instance.{problem-priced}
+use Rattle.slack.proofs.Instance.{problem-priced}
 
 -- before the first module, with that much left
 abbrev pub atStart : ℕ → Passed
@@ -34,7 +35,7 @@ abbrev pub after : Passed → Module → ℕ → Passed
 after m x left = record { before = m .cores; from = m .last; last = x .last; copies = x .copies; cores = x .cores; left = left }
 
 module _ (c : Chain) (n : ℕ) where
-  pub light-feasible : {v : ℕ} → v ≡ light (problem c) n → v < noPlan (c .board) → Feasible (problem c) n
+  light-feasible : {v : ℕ} → v ≡ light (problem c) n → v < noPlan (c .board) → Feasible (problem c) n
   light-feasible e h = omega (arith, chain-cap c)
 
   pub feasible-light : {v : ℕ} → v ≡ light (problem c) n → Feasible (problem c) n → v < noPlan (c .board)

@@ -2,7 +2,6 @@ pub mod Cells
 pub mod Coming
 pub mod Copies
 pub mod Fitting
-pub mod Instance
 pub mod Laying
 pub mod Lending
 pub mod Optimal

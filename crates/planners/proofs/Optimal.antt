@@ -28,10 +28,10 @@ use Rattle.search.proofs.Plan.{valid-first, valid-tail}
 use Rattle.search.proofs.Fraction.{greater-case}
 use Rattle.search.proofs.Answer.{answer-is}
 use Rattle.search.proofs.Outcome.{answer-best}
-use Rattle.planners.specs.Search.{grain, problem, topThreshold}
+use Rattle.slack.specs.Problem.{grain, problem, topThreshold}
 use Rattle.planners.specs.Best.{isBetter, bestPlan}
 use Rattle.planners.specs.Claims.{ComesFirst}
-use Rattle.planners.proofs.Instance.{problem-small, keeps-rules, rules-keeps, less-same, more-same}
+use Rattle.slack.proofs.Instance.{problem-small, keeps-rules, rules-keeps, less-same, more-same}
 use Rattle.planners.proofs.Weighing.{Quick, problem-laws, matched, weight-order, better-decides, best-searched}
 
 -- where no load of a plan is above most, the search's numerator is not

@@ -3,8 +3,10 @@
 use mathlib.Core.Path.{_≡_, refl, sym, ap, _∙_}
 use mathlib.Core.Bool.{true, false}
 use mathlib.Core.List.{List, _++_}
+use mathlib.Core.Logic.{⊎-elim}
 use mathlib.Core.Option.{none, some}
 use Prim.Native.Nat.{ℕ, zero, suc, _≤_, _<_}
+use native.Mathlib.Nat.{le-refl}
 use native.Mathlib.Omega.{arith}
 use lib.ListN.{length, getD, drop, replicate, length-replicate}
 use borrow.Author.Tests.{le-ltb, le-leb, lt-leb, eq-eqb, ne-eqb}
@@ -12,6 +14,7 @@ use Rattle.records.specs.declared.Board.{Board}
 use Rattle.records.specs.declared.Reading.{Reading}
 use Rattle.records.specs.Costs.{readCosts}
 use Rattle.records.specs.Format.{IsCosts}
+use Rattle.records.proofs.Cases.{lt-or-le}
 use Rattle.records.proofs.Laws.{accepted-costs}
 use Rattle.modules.specs.Model.{chainOf}
 use Rattle.layout.specs.Layout.{planBytes, modulesOf, encodePlan}
@@ -26,10 +29,14 @@ use Rattle.search.specs.Best.{light, plan, Feasible, Bottom}
 use Rattle.search.specs.Answer.{answer}
 use Rattle.search.proofs.Best.{plan-keeps}
 use Rattle.search.proofs.Answer.{finds}
-use Rattle.planners.specs.Search.{problem, noPlan, topThreshold, Sized, Holds, AllReached}
+use Rattle.slack.specs.Problem.{problem, topThreshold, SomeWithin, Sized}
+use Rattle.slack.proofs.Splits.{feasible-found, found-feasible}
+use Rattle.threshold.specs.Threshold.{Decided}
+use Rattle.threshold.specs.Words.{Area}
+use Rattle.planners.specs.Search.{Holds, AllReached}
 use Rattle.planners.specs.Best.{workWords, isBetter, bestPlan, foundAnswer, foundBytes, begins, bestAnswer, bestBytes, bestWork}
-use Rattle.planners.proofs.Cells.{chain-cap, cells-few}
-use Rattle.planners.proofs.Instance.{problem-priced, problem-small, keeps-rules}
+use Rattle.planners.proofs.Cells.{cells-few}
+use Rattle.slack.proofs.Instance.{problem-priced, problem-small, keeps-rules}
 use Rattle.planners.proofs.Weighing.{problem-laws, better-decides, best-searched}
 use Rattle.planners.proofs.Optimal.{quick, best-answer}
 
@@ -54,13 +61,35 @@ module _ (s : List ℕ) (b : Board) (costs : IsCosts s b) where
   zero-holds {w} h e =
       record { sized = sized; long = omega (arith, cells-few sized); low = λ j. omega (arith, ap (λ (v : List ℕ). getD v j 0) e, one-number (length w) j 0) }
 
+  -- the slack table has room in it too
+  pub area : (w : List ℕ) → workWords ≤ length w → Area b w
+  area w h = record { sized = sized; long = omega arith }
+
+  -- a threshold that no plan is within is not feasible, and one that some plan is within is
+  unfeasible : (m : ℕ) → (SomeWithin (chainOf s b) m → ⊥) → cap (problem (chainOf s b)) ≤ light (problem (chainOf s b)) m
+  unfeasible m nothing = ⊎-elim
+      (λ h. absurd (nothing (feasible-found (problem (chainOf s b)) (problem-priced (chainOf s b)) m h)))
+      (λ h. h)
+      (lt-or-le (light (problem (chainOf s b)) m) (cap (problem (chainOf s b))))
+
+  module _ (n : ℕ) (decided : Decided (chainOf s b) n) where
+    pub decided-feasible : n ≤ topThreshold → Feasible (problem (chainOf s b)) n
+    decided-feasible h = found-feasible (problem (chainOf s b)) (problem-laws (chainOf s b) (quick s b costs)) n .1 (decided .some-plan h)
+
+    pub decided-bottom : Bottom (problem (chainOf s b)) n
+    decided-bottom = below n (decided .none-below)
+      where
+        below : (m : ℕ) → ((i : ℕ) → i < m → SomeWithin (chainOf s b) i → ⊥) → Bottom (problem (chainOf s b)) m
+        below zero nothing = tt
+        below (suc m) nothing = unfeasible m (nothing m (le-refl (suc m)))
+
   -- no plan is within the greatest threshold
-  module _ {v : ℕ} (e : v ≡ light (problem (chainOf s b)) topThreshold) (h : noPlan (b .cores) ≤ v) where
+  module _ {r : ℕ} (decided : Decided (chainOf s b) r) (h : topThreshold < r) where
     none-found : bestPlan (chainOf s b) ≡ none
     unfolding answer
     none-found =
         best-answer s b costs
-        ∙ simp (le-ltb (light (problem (chainOf s b)) topThreshold) (cap (problem (chainOf s b))) (omega (arith, chain-cap (chainOf s b))))
+        ∙ simp (le-ltb (light (problem (chainOf s b)) topThreshold) (cap (problem (chainOf s b))) (unfeasible topThreshold (decided .none-below topThreshold h)))
 
     pub none-answer : refusal 9 0 ≡ foundAnswer (chainOf s b) (bestPlan (chainOf s b))
     unfolding foundAnswer

@@ -18,7 +18,7 @@ use Rattle.judge.specs.Timed.{blockTimeAnswer}
 use Rattle.judge.specs.Claims.{chain, Passes}
 use Rattle.search.specs.Copies.{fewest}
 use Rattle.search.specs.Best.{fitsAt}
-use Rattle.planners.specs.Search.{grain, price, problem}
+use Rattle.slack.specs.Problem.{grain, price, problem}
 use Rattle.planners.specs.Best.{begins, bestAnswer, bestBytes}
 use Rattle.planners.specs.Claims.{ComesFirst, Filled}
 use Rattle.planners.proofs.Copies as copies

@@ -21,9 +21,9 @@ use Rattle.search.specs.Answer.{Better, Decides}
 use Rattle.search.proofs.Tests.{and-l, and-r, and-i, or-e, or-l, or-r, eq→eqb}
 use Rattle.search.proofs.Plan.{valid-first, valid-tail}
 use Rattle.search.proofs.Tiers.{tiered-laws, lighter-exactly, same-weight}
-use Rattle.planners.specs.Search.{unit, ticks, problem}
+use Rattle.slack.specs.Problem.{unit, ticks, problem}
 use Rattle.planners.specs.Best.{isLighter, isBetter, bestPlan}
-use Rattle.planners.proofs.Instance.{Matched, problem-tiered, keeps-rules, keeps-same, bottleneck-matched, less-same, more-same}
+use Rattle.slack.proofs.Instance.{Matched, problem-tiered, keeps-rules, keeps-same, bottleneck-matched, less-same, more-same}
 
 -- ---- the same weight, on a chain whose plans that keep the rules all take less than a unit
 

@@ -1,4 +1,4 @@
--- A chain as a problem of the search, and what the planner's own functions hand on. Assumes nothing.
+-- What the planner's own functions hand on. Assumes nothing.
 use Prim.Native.Nat.{ℕ, _+_, _-_, _*_, _≤_, _<_}
 use mathlib.Core.Path.{_≡_}
 use mathlib.Core.List.{List, List·Memᴰ}
@@ -7,43 +7,16 @@ use lib.ListN.{length, getD}
 use lib.Dec.{eqb}
 use Rattle.records.specs.declared.Board.{Board}
 use Rattle.modules.specs.declared.Module.{Module}
-use Rattle.modules.specs.Model.{Chain, response, transfer, handed, body, passage}
+use Rattle.modules.specs.Model.{Chain, transfer, handed, body}
 use Rattle.modules.specs.Rules.{moduleRules, copiesAllowed}
 use Rattle.modules.specs.Reach.{reach}
 use Rattle.search.specs.Least.{pick}
-use Rattle.search.specs.Plan.{Measure, Problem}
+use Rattle.search.specs.Plan.{Problem}
 use Rattle.search.specs.Walk.{Room, choice}
 use Rattle.search.specs.Best.{fitsAt}
 use Rattle.search.specs.Flat.{cells, readTable}
+use Rattle.slack.specs.Problem.{grain, unit, price, problem, topThreshold, Sized, Reached}
 use Rattle.planners.specs.declared.path.Passed.{Passed}
-
--- fractions whose denominators are at most 32 are equal or at least 1 / 1024 apart
-abbrev pub grain : ℕ
-grain = 1024
-
--- M-104: what one core weighs, 2²⁵, more than the single-block time of any plan that keeps the rules
-abbrev pub unit : ℕ
-unit = 33554432
-
--- what the module of tasks t + 1 to l adds to the single-block time, before one of q cores
-abbrev pub ticks : Chain → Measure
-ticks c s t l r p q = passage c (t + 1) l r p q
-
--- its price: its cores, and what it adds to the single-block time
-abbrev pub price : Chain → (t l r p q : ℕ) → ℕ
-price c t l r p q = unit * (r * p) + passage c (t + 1) l r p q
-
--- the modules that keep the rules, their response, and their price
-abbrev pub problem : Chain → Problem
-problem c = record {
-  tasks = c .tasks;
-  board = c .board;
-  allowed = λ s t l r p q. moduleRules c (t + 1) l r p;
-  response = λ s t l r p q. response c s (t + 1) l r p q;
-  grain = grain;
-  unit = unit;
-  price = λ s t l r p q. price c t l r p q;
-}
 
 -- a problem of which only the size counts
 abbrev pub ofSize : ℕ → ℕ → Problem
@@ -61,17 +34,6 @@ ofSize k p = record {
 abbrev pub noPlan : ℕ → ℕ
 noPlan p = unit * (p + 1)
 
--- the greatest threshold: no response is above 23,000,255 ticks (M-106)
-abbrev pub topThreshold : ℕ
-topThreshold = 23552261120
-
--- the board is in range
-pub record Sized (b : Board) : Type 0 where
-  pub some-tasks : 1 ≤ b .tasks
-  pub most-tasks : b .tasks ≤ 12
-  pub some-cores : 1 ≤ b .cores
-  pub most-cores : b .cores ≤ 32
-
 -- the work area holds the table, and no number in it is above the cap
 pub record Holds (b : Board) (w : List ℕ) : Type 0 where
   pub sized : Sized b
@@ -79,11 +41,6 @@ pub record Holds (b : Board) (w : List ℕ) : Type 0 where
   pub low : (j : ℕ) → getD w j 0 ≤ noPlan (b .cores)
 
 -- ---- M-102: no response is worked out for a module beyond its reach
-
--- the module of the tasks t + 1 to l ends within the reach of its first task
-pub record Reached (c : Chain) (t l : ℕ) : Type 0 where
-  pub later : t < l
-  pub within : l ≤ reach c (t + 1)
 
 -- the reach of each task, that of task t + 1 at t
 pub record EachReach (c : Chain) (reaches : List ℕ) : Type 0 where

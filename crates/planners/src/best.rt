@@ -1,38 +1,26 @@
 // Document 01's Best plan: least bottleneck, then fewest cores, then least single-block time (document 02, M-104), then module order.
 ghost use mathlib.Core.Path.{_≡_};
 ghost use Prim.Native.Nat.{_≤_};
-ghost use lib.ListN.{length, replicate};
+ghost use lib.ListN.{length};
 ghost use Rattle.records.specs.Format.{IsCosts};
 ghost use Rattle.modules.specs.Model.{chainOf};
 ghost use Rattle.layout.specs.Layout.{planBytes, modulesOf};
 ghost use Rattle.figures.specs.Plan.{figuresOf};
 ghost use Rattle.planners.specs.Best.{workWords, bestPlan, foundAnswer, foundBytes, bestAnswer, bestBytes, bestWork};
 ghost use Rattle.planners.specs.Search.{AllReached};
-use crate::bisect::least_threshold;
-use crate::bisect::weight_within;
 use crate::path::lay_path;
 use crate::reaches::each_reach;
-use crate::table::no_plan;
+use crate::table::weight_within;
 use figures::Answer;
 use figures::refuse;
+use guess::TOP;
 use layout::PLAN_BYTES;
 use layout::put_plan;
 use records::Board;
+use threshold::least_threshold;
+use threshold::zero;
 
 const WORK_WORDS: usize = 16384;
-
-// The greatest threshold: 1024 times 23,000,255 ticks, more than which no module takes.
-const TOP: u64 = 23552261120;
-
-fn zero(work: &mut [u32])
-    ensures { λ _. ⌜ now (work .exit) ≡ replicate (length (now (work .entry))) 0 ⌝ }
-{
-    let mut i: usize = 0;
-    while i < work.len() {
-        work[i] = 0;
-        i += 1;
-    }
-}
 
 // The figures of a plan whose modules all end within their reach (document 02, M-102).
 fn figures_of(costs: &[u8], board: Board, plan: [u8; PLAN_BYTES]) -> Answer
@@ -42,20 +30,18 @@ fn figures_of(costs: &[u8], board: Board, plan: [u8; PLAN_BYTES]) -> Answer
     figures::figures(costs, board, &plan)
 }
 
-// The search on accepted costs: the plan's figures, or refusal 9. The work area is zero before and holds the tables.
+// The search on accepted costs: the plan's figures, or refusal 9. The work area holds the tables.
 fn search(costs: &[u8], board: Board, plan: &mut [u8], work: &mut [u32]) -> Answer
-    requires { ⌜ IsCosts (now costs) board × (planBytes ≤ length (now plan)) × (workWords ≤ length (now work)) × (now work ≡ replicate (length (now work)) 0) ⌝ }
+    requires { ⌜ IsCosts (now costs) board × (planBytes ≤ length (now plan)) × (workWords ≤ length (now work)) ⌝ }
     ensures { λ r. ⌜ (r ≡ foundAnswer (chainOf (now (costs .entry)) board) (bestPlan (chainOf (now (costs .entry)) board)))
         × (now (plan .exit) ≡ foundBytes (bestPlan (chainOf (now (costs .entry)) board)) (now (plan .entry)))
         × (length (now (work .exit)) ≡ length (now (work .entry))) ⌝ }
 {
-    let none = no_plan(board.cores);
-    let reaches = each_reach(costs, board);
-    let some = weight_within(costs, board, reaches, work, TOP);
-    if none <= some {
+    let n = least_threshold(costs, board, work);
+    if TOP < n {
         return refuse(9, 0);
     }
-    let n = least_threshold(costs, board, reaches, work, TOP);
+    let reaches = each_reach(costs, board);
     let weight = weight_within(costs, board, reaches, work, n);
     let mut path = [0u8; PLAN_BYTES];
     lay_path(costs, board, reaches, work, n, weight, &mut path);
@@ -81,7 +67,6 @@ pub fn best_plan(costs: &[u8], plan: &mut [u8], work: &mut [u32]) -> Answer
         return refuse(8, 0);
     }
     let board = read.board;
-    zero(work);
     let answer = search(costs, board, plan, work);
     zero(work);
     answer

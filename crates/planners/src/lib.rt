@@ -3,7 +3,6 @@
 //
 // It fills the lent plan bytes and answers with the plan's figures, or refuses by number and leaves them as they came.
 mod best;
-mod bisect;
 mod path;
 mod reaches;
 mod table;

@@ -7,11 +7,12 @@ ghost use Rattle.layout.specs.Layout.{encodePlan};
 ghost use Rattle.search.specs.Best.{fitsAt, light, tableAt, plan as planOf};
 ghost use Rattle.search.specs.Flat.{readTable, Filled};
 ghost use Rattle.search.specs.Walk.{choice as choiceOf, chosen, goesOn};
-ghost use Rattle.planners.specs.Search.{price as priceOf, problem, noPlan, topThreshold, Sized, Holds, Reached, EachReach, PassedReached, roomOf, FirstCores, FirstCopies, SomeNext};
+ghost use Rattle.slack.specs.Problem.{price as priceOf, problem, topThreshold, Sized, Reached};
+ghost use Rattle.planners.specs.Search.{noPlan, Holds, EachReach, PassedReached, roomOf, FirstCores, FirstCopies, SomeNext};
 use crate::reaches::MOST_TASKS;
-use crate::table::GRAIN;
 use crate::table::UNIT;
 use crate::table::read_table;
+use guess::GRAIN;
 use modules::Module;
 use records::Board;
 

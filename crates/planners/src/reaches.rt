@@ -1,6 +1,7 @@
 // How far a module may go from each first task (document 02, M-102), worked out once a search.
 ghost use Rattle.modules.specs.Model.{chainOf};
-ghost use Rattle.planners.specs.Search.{Sized, EachReach};
+ghost use Rattle.slack.specs.Problem.{Sized};
+ghost use Rattle.planners.specs.Search.{EachReach};
 use records::Board;
 
 // As many reaches as a chain has tasks at most.

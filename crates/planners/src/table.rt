@@ -8,17 +8,16 @@ ghost use lib.Dec.{ltb};
 ghost use Rattle.modules.specs.Model.{chainOf};
 ghost use Rattle.modules.specs.Rules.{moduleRules};
 ghost use Rattle.modules.specs.Reach.{reach};
-ghost use Rattle.search.specs.Least.{lesser as lesserOf};
 ghost use Rattle.search.specs.Copies.{fewest};
 ghost use Rattle.search.specs.Weight.{overCopies, overNext, overLast};
 ghost use Rattle.search.specs.Best.{fitsAt, light};
 ghost use Rattle.search.specs.Flat.{readTable, cells, cell, Filled};
-ghost use Rattle.planners.specs.Search.{problem, ofSize, noPlan, topThreshold, Holds, Placed, Reached, EachReach, Loaded};
+ghost use Rattle.slack.specs.Problem.{problem, topThreshold, Reached};
+ghost use Rattle.planners.specs.Search.{ofSize, noPlan, Holds, Placed, EachReach, Loaded};
 use crate::reaches::MOST_TASKS;
+use guess::GRAIN;
 use records::Board;
-
-// Fractions whose denominators are at most 32 are equal or at least 1/1024 apart.
-pub(crate) const GRAIN: u64 = 1024;
+use threshold::lesser;
 
 // What one core weighs: more than the single-block time of any plan, so that cores count first.
 pub(crate) const UNIT: u32 = 33554432;
@@ -29,12 +28,6 @@ pub(crate) fn no_plan(cores: u8) -> u32
     ensures { λ r. ⌜ r ≡ noPlan cores ⌝ }
 {
     UNIT * ((cores as u32) + 1)
-}
-
-fn lesser(a: u32, b: u32) -> u32
-    ensures { λ r. ⌜ r ≡ lesserOf a b ⌝ }
-{
-    if a <= b { a } else { b }
 }
 
 // The fewest copies that bring the load, one of a single copy and more of each of several, down to n; 0 where none do.
@@ -240,4 +233,21 @@ pub(crate) fn least_weight(
         q += 1;
     }
     m
+}
+
+// The table of the threshold n, and the least weight of a plan within n.
+pub(crate) fn weight_within(
+    costs: &[u8],
+    board: Board,
+    reaches: [u8; MOST_TASKS],
+    work: &mut [u32],
+    n: u64,
+) -> u32
+    requires { ⌜ Holds board (now work) × (n ≤ topThreshold) × EachReach (chainOf (now costs) board) reaches ⌝ }
+    ensures { λ r. ⌜ (r ≡ light (problem (chainOf (now (costs .entry)) board)) n) × Holds board (now (work .exit))
+        × (length (now (work .exit)) ≡ length (now (work .entry)))
+        × Filled (problem (chainOf (now (costs .entry)) board)) (fitsAt (problem (chainOf (now (costs .entry)) board)) n) (now (work .exit)) 0 ⌝ }
+{
+    fill_table(costs, board, reaches, work, n);
+    least_weight(costs, board, reaches, work, n)
 }

@@ -11,7 +11,7 @@ use fields::wide;
 pub const MOST_VALUE: u32 = 1000000;
 
 // The most cores of a board, and the greatest limit of a task.
-pub(crate) const MOST_CORES: u8 = 32;
+pub const MOST_CORES: u8 = 32;
 
 // How many records a file of k tasks and p cores has.
 pub fn count(k: u8, p: u8) -> u32

@@ -8,6 +8,7 @@
 mod keys;
 mod scan;
 
+pub use keys::MOST_CORES;
 pub use keys::MOST_VALUE;
 pub use keys::count;
 pub use keys::fault;

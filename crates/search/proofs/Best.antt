@@ -2,7 +2,7 @@
 -- beyond it they are greater, and the walk gives the first of the lightest plans within it.
 use Prim.Native.Nat.{ℕ, zero, suc, _*_, _≤_, _<_}
 use native.Mathlib.Omega.{arith}
-use native.Mathlib.Nat.{le-trans, eq-or-lt-of-le, mul-le-mul-right, mul-le-mul-left, le-mul-of-pos-right}
+use native.Mathlib.Nat.{le-trans, eq-or-lt-of-le, mul-le-mul-left, le-mul-of-pos-right}
 use mathlib.Core.Path.{_≡_}
 use mathlib.Core.Logic.{_⊎_, inl, inr}
 use mathlib.Core.List.{List}
@@ -20,7 +20,7 @@ use Rattle.search.proofs.Tests.{passed, failed, test}
 use Rattle.search.proofs.Least.{least-le, least-at}
 use Rattle.search.proofs.Plan.{valid-map, Fair, head-le, tight-fits, tight-fair, valid-tight, on-board}
 use Rattle.search.proofs.Weight.{attained, table-le}
-use Rattle.search.proofs.Bottleneck.{rules-fair, within-fair, within-rules, den-pos, bottleneck-in, bottleneck-out, threshold, threshold-zero, beyond}
+use Rattle.search.proofs.Bottleneck.{rules-fair, within-fair, within-rules, den-pos, bottleneck-out, threshold, threshold-zero, beyond}
 use Rattle.search.proofs.Walk.{walk-is}
 
 pub fits-fair : (X : Problem) (n : ℕ) → Fair (X .tasks) (fitsAt X n)
@@ -64,14 +64,6 @@ module _ (X : Problem) where
 
       pub plan-weighs : planWeight X (plan X n) ≡ light X n
       plan-weighs = omega (arith, plan-is n feasible .fine .light, light-under n (plan X n) plan-keeps plan-within plan-light)
-
-    -- above a feasible threshold all are feasible: its plan is within them too
-    pub feasible-more : (n m : ℕ) → n ≤ m → Feasible X n → Feasible X m
-    feasible-more n m e h =
-        let b = planBottleneck X (plan X n) in
-        let k = plan-keeps n h in
-        let u : Under (X .grain) m b = omega (arith, bottleneck-in X n 0 0 (plan X n) (plan-within n h), mul-le-mul-right (b .den) e) in
-        omega (arith, light-under m (plan X n) k (bottleneck-out X m 0 0 (plan X n) (k .0) u) (plan-light n h), plan-light n h)
 
 module _ (X : Problem) (L : Laws X) where
   -- a plan that keeps the board weighs less than the cap (the converse is on-board)

@@ -1,6 +1,5 @@
 pub mod Answer
 pub mod Best
-pub mod Bisect
 pub mod Bottleneck
 pub mod Cheapest
 pub mod Copies

@@ -1,11 +1,10 @@
--- `best_plan` is the service: each refusal is the first that is due, and the search on accepted costs begins and ends with a zeroed work
--- area.
+-- `best_plan` is the service: each refusal is the first that is due, and after the search on accepted costs the work area is zeroed.
 use mathlib.Core.Path.{ap, _∙_}
 use Prim.Native.Nat.{ℕ}
 use native.Mathlib.Omega.{arith}
 use borrow.Author.Needs.{needs}
-use lib.ListN.{length, replicate}
-use Rattle.planners.proofs.Serving.{zeroed-length, zeroed, accepted-is, refused-costs, refused-bytes, refused-work, served}
+use lib.ListN.{replicate}
+use Rattle.planners.proofs.Serving.{accepted-is, refused-costs, refused-bytes, refused-work, served}
 use Rattle.planners.proofs.best.best_plan.Statement.{statement}
 use Rattle.planners.proofs.best.best_plan.Tie as tie
 
@@ -36,22 +35,13 @@ returns-3 c =
     let a = c .before .before .before .before .before .before .before .before .before .args in
     refused-work (a .costs .now) (a .plan .now) (a .work .now) (c .before .before .before .before .before .read .ensures) (omega arith) (c .before .before .if2 .left) (c .before .if3 .taken) (c .refuse3 .ensures)
 
-zero-requires : tie.Need-zero-requires
-zero-requires c κs = search needs
-
 search-requires : tie.Need-search-requires
 search-requires c κs =
-    let a = c .before .before .before .before .before .before .before .before .before .before .before .before .before .before .before .args in
-    let zero = c .before .before .before .before .zero in
-    let same = zeroed-length (length (a .work .now)) (zero .ensures) in (
-      accepted-is (a .costs .now) (c .before .before .before .before .before .before .before .before .before .before .before .read .ensures) (omega arith),
-      c .before .before .before .before .before .before .before .before .if2 .left,
-      omega arith,
-      zeroed (length (a .work .now)) (zero .ensures),
-    )
+    let a = c .before .before .before .before .before .before .before .before .before .before .before .args in
+    (accepted-is (a .costs .now) (c .before .before .before .before .before .before .before .read .ensures) (omega arith), c .before .before .before .before .if2 .left, c .before .before .before .if3 .left)
 
-zero-requires-2 : tie.Need-zero-requires-2
-zero-requires-2 c κs = search needs
+zero-requires : tie.Need-zero-requires
+zero-requires c κs = search needs
 
 same-length : tie.Need-same-length
 same-length c = search needs
@@ -61,11 +51,10 @@ same-length-2 c = search needs
 
 returns-4 : tie.Need-returns-4
 returns-4 c =
-    let a = c .before .before .before .before .before .before .before .before .before .before .before .before .before .before .before .before .before .before .before .before .before .before .before .before .args in
-    let first = c .before .before .before .before .before .before .before .before .before .before .before .before .before .zero .ensures in
+    let a = c .before .before .before .before .before .before .before .before .before .before .before .before .before .before .before .before .before .before .before .before .args in
     let found = c .before .before .before .before .before .before .before .before .search .ensures in
-    let zeros = c .before .before .zero2 .ensures ∙ ap (λ (n : ℕ). replicate n 0) (found .2 ∙ zeroed-length (length (a .work .now)) first) in
-    served (a .costs .now) (a .plan .now) (a .work .now) (c .before .before .before .before .before .before .before .before .before .before .before .before .before .before .before .before .before .before .before .before .read .ensures) (omega arith) (c .before .before .before .before .before .before .before .before .before .before .before .before .before .before .before .before .before .if2 .left) (c .before .before .before .before .before .before .before .before .before .before .before .before .before .before .before .before .if3 .left) (found .0) (found .1) zeros
+    let zeros = c .before .before .zero .ensures ∙ ap (λ (n : ℕ). replicate n 0) (found .2) in
+    served (a .costs .now) (a .plan .now) (a .work .now) (c .before .before .before .before .before .before .before .before .before .before .before .before .before .before .before .before .read .ensures) (omega arith) (c .before .before .before .before .before .before .before .before .before .before .before .before .before .if2 .left) (c .before .before .before .before .before .before .before .before .before .before .before .before .if3 .left) (found .0) (found .1) zeros
 
 pub best-plan-spec : {M : Type 1} → statement M
 best-plan-spec =
@@ -78,9 +67,8 @@ best-plan-spec =
     returns-2
     refuse-requires-3
     returns-3
-    zero-requires
     search-requires
-    zero-requires-2
+    zero-requires
     same-length
     same-length-2
     returns-4)

@@ -7,7 +7,7 @@ use native.Mathlib.Omega.{arith}
 use borrow.Author.Needs.{needs}
 use Rattle.records.proofs.Bounds.{product-of-bytes}
 use Rattle.modules.specs.Model.{chainOf}
-use Rattle.planners.specs.Search.{topThreshold}
+use Rattle.slack.specs.Problem.{topThreshold}
 use Rattle.planners.proofs.Fitting.{fits-not, fits-kept-not, fits-within}
 use Rattle.planners.proofs.path.fits_at.Statement.{statement}
 use Rattle.planners.proofs.path.fits_at.Tie as tie

@@ -7,7 +7,7 @@ use borrow.Author.Needs.{needs}
 use borrow.Author.Tests.{lt-ltb, le-ltb}
 use Rattle.records.proofs.Bounds.{product-of-bytes}
 use Rattle.modules.specs.Model.{chainOf}
-use Rattle.planners.specs.Search.{price}
+use Rattle.slack.specs.Problem.{price}
 use Rattle.planners.proofs.Cells.{read-size}
 use Rattle.planners.proofs.Fitting.{reached-inside}
 use Rattle.planners.proofs.path.goes_on.Statement.{statement}

@@ -10,8 +10,9 @@ use Rattle.modules.specs.Model.{chainOf}
 use Rattle.search.specs.Flat.{rowOf, cells}
 use Rattle.search.proofs.Flat.{row-le}
 use Rattle.search.proofs.Fill.{cell-from, cell-over}
-use Rattle.planners.specs.Search.{problem, ofSize, Sized}
-use Rattle.planners.proofs.Instance.{problem-priced}
+use Rattle.slack.specs.Problem.{problem, Sized}
+use Rattle.planners.specs.Search.{ofSize}
+use Rattle.slack.proofs.Instance.{problem-priced}
 use Rattle.planners.proofs.Cells.{chain-cap, square-range}
 use Rattle.planners.proofs.table.cell_at.Statement.{statement}
 use Rattle.planners.proofs.table.cell_at.Tie as tie

@@ -9,7 +9,8 @@ use Rattle.modules.specs.Model.{chainOf}
 use Rattle.search.specs.Best.{fitsAt}
 use Rattle.search.specs.Flat.{cells, Filled}
 use Rattle.search.proofs.Flat.{filled-end, filled-set}
-use Rattle.planners.specs.Search.{problem, Holds}
+use Rattle.slack.specs.Problem.{problem}
+use Rattle.planners.specs.Search.{Holds}
 use Rattle.planners.proofs.Cells.{square-range, cells-few, holds-set}
 use Rattle.planners.proofs.table.fill_table.Statement.{statement}
 use Rattle.planners.proofs.table.fill_table.Tie as tie

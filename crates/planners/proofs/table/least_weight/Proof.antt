@@ -9,8 +9,8 @@ use Rattle.search.specs.Plan.{cap}
 use Rattle.search.specs.Flat.{firstRow}
 use Rattle.search.proofs.Least.{least-more}
 use Rattle.search.proofs.Fill.{first-row, light-start, light-end}
-use Rattle.planners.specs.Search.{problem}
-use Rattle.planners.proofs.Instance.{problem-priced}
+use Rattle.slack.specs.Problem.{problem}
+use Rattle.slack.proofs.Instance.{problem-priced}
 use Rattle.planners.proofs.Cells.{chain-cap, least-most}
 use Rattle.planners.proofs.table.least_weight.Statement.{statement}
 use Rattle.planners.proofs.table.least_weight.Tie as tie

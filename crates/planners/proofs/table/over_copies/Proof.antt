@@ -7,7 +7,7 @@ use mathlib.Core.Path.{_∙_}
 use borrow.Author.Needs.{needs}
 use Rattle.modules.specs.Model.{chainOf}
 use Rattle.search.proofs.Least.{lesser-le}
-use Rattle.planners.specs.Search.{unit}
+use Rattle.slack.specs.Problem.{unit}
 use Rattle.planners.proofs.Cells.{read-size, weighs-few, copies-none, copies-some}
 use Rattle.planners.proofs.Fitting.{reached-inside}
 use Rattle.planners.proofs.table.over_copies.Statement.{statement}

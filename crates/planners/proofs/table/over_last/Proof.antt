@@ -16,8 +16,9 @@ use Rattle.search.specs.Best.{fitsAt}
 use Rattle.search.specs.Flat.{readTable}
 use Rattle.search.proofs.Least.{least-more}
 use Rattle.search.proofs.Fill.{last-start}
-use Rattle.planners.specs.Search.{problem, Reached}
-use Rattle.planners.proofs.Cells.{chain-cap, least-most, kept-longer, last-stop, last-beyond}
+use Rattle.slack.specs.Problem.{problem, Reached}
+use Rattle.slack.proofs.Growing.{kept-longer}
+use Rattle.planners.proofs.Cells.{chain-cap, least-most, last-stop, last-beyond}
 use Rattle.planners.proofs.table.over_last.Statement.{statement}
 use Rattle.planners.proofs.table.over_last.Tie as tie
 

@@ -12,7 +12,7 @@ use Rattle.search.specs.Best.{fitsAt}
 use Rattle.search.specs.Flat.{readTable}
 use Rattle.search.proofs.Least.{least-more}
 use Rattle.search.proofs.Fill.{next-last, next-start, next-end}
-use Rattle.planners.specs.Search.{problem}
+use Rattle.slack.specs.Problem.{problem}
 use Rattle.planners.proofs.Cells.{chain-cap, loaded, least-most}
 use Rattle.planners.proofs.Fitting.{reached-inside}
 use Rattle.planners.proofs.table.over_next.Statement.{statement}

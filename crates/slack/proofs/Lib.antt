@@ -1,0 +1,12 @@
+pub mod After
+pub mod Chain
+pub mod Cheapest
+pub mod Fill
+pub mod Greatest
+pub mod Growing
+pub mod Instance
+pub mod Judged
+pub mod Offers
+pub mod Slack
+pub mod Split
+pub mod Splits

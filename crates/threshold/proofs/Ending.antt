@@ -1,0 +1,131 @@
+-- What modules that end with a task leave, by a row of cheapest transfers, and the table by modules that end after a task, which each task
+-- that is ended takes one further. By the laws of the slack table of a chain.
+use Prim.Native.Nat.{ℕ, _+_, _-_, _*_, _≤_, _<_}
+use native.Mathlib.Nat.{le-refl}
+use native.Mathlib.Omega.{arith}
+use mathlib.Core.Path.{_≡_, refl, sym, _∙_}
+use mathlib.Core.Bool.{Bool}
+use mathlib.Core.Logic.{⊎-elim}
+use mathlib.Core.List.{List}
+use lib.ListN.{length, getD}
+use Rattle.records.proofs.Cases.{lt-or-le}
+use Rattle.modules.specs.Model.{Chain, handed}
+use Rattle.slack.specs.Fill.{leftBy, several, moreBy, bestBy, endsAt}
+use Rattle.slack.specs.Problem.{topThreshold, fitsOn, replicableOn, bodyOn, cheapestOn, oneOn, anyOn, afterOn}
+use Rattle.slack.proofs.Fill.{left-ext, best-ext}
+use Rattle.slack.proofs.Chain.{after-start, after-next, after-slack}
+use Rattle.sketch.specs.Slacks.{slackAt}
+use Rattle.threshold.specs.Words.{reachAt, timeAt, rowOf, Laid, Cheapest, Offered, RowFilled, AllFilled, FilledAfter, Pushed, Cleared}
+
+-- ---- what copies leave beside a row of cheapest transfers is what they leave beside the cheapest transfers
+
+module _ (c : Chain) (n l q : ℕ) (row : List ℕ) (right : Cheapest c n row l q) (b : ℕ) (inside : b ≤ c .board) (some : q ≤ b) where
+  same : (e : ℕ) → e ≤ b - q → rowOf row l q e ≡ cheapestOn c n l q e
+  same e h = right e (omega arith)
+
+  left-right : leftBy (timeAt n) (handed c 2) (rowOf row) 0 q b 1 ≡ oneOn c n l q b
+  unfolding leftBy
+  left-right = left-ext (timeAt n) (handed c 2) (rowOf row) (cheapestOn c n) l q b same 1 (le-refl 1)
+
+  best-right : bestBy (timeAt n) (handed c 2) (rowOf row) 0 q b ≡ anyOn c n l q b
+  unfolding bestBy moreBy several leftBy
+  best-right = best-ext (timeAt n) (handed c 2) (rowOf row) (cheapestOn c n) l q b same
+
+-- a slack depends on what copies leave with its cores only
+ends-same : (fits : (t l q : ℕ) → Bool) (rep : (t l : ℕ) → Bool) (body : (t l q : ℕ) → ℕ) (O O′ B B′ : (l q b : ℕ) → ℕ) (t q b l : ℕ) → O l q b ≡ O′ l q b → B l q b ≡ B′ l q b
+    → endsAt fits rep body O B t q b l ≡ endsAt fits rep body O′ B′ t q b l
+unfolding endsAt
+ends-same fits rep body O O′ B B′ t q b l e d = rw (e, d) refl
+
+pub pushed-right : (c : Chain) (n l q extra : ℕ) (row left w w′ : List ℕ) → extra ≡ handed c 2 → Cheapest c n row l q → Offered n extra row q (c .board) left
+    → Pushed c w w′ (λ b. getD left b 0) (λ b. getD left (33 + b) 0) 0 l q → Pushed c w w′ (oneOn c n l q) (anyOn c n l q) 0 l q
+pushed-right c n l q extra row left w w′ e right offered pushed = record {
+  long = pushed .long;
+  made = λ t b f g u v. pushed .made t b f g u v ∙ rw (ends-same (fitsOn c) (replicableOn c) (bodyOn c) (λ l q b. getD left b 0) (λ i p b. oneOn c n l q b) (λ l q b. getD left (33 + b) 0) (λ i p b. anyOn c n l q b) t q b l
+      (offered .one b u v ∙ rw e (left-right c n l q row right b v u)) (offered .any b u v ∙ rw e (best-right c n l q row right b v u))) refl;
+  kept = pushed .kept;
+}
+
+-- ---- the words of the tasks
+
+-- they stand where no slack does
+pub laid-words : (c : Chain) (w w′ : List ℕ) → ((j : ℕ) → 13068 ≤ j → getD w′ j 0 ≡ getD w j 0) → Laid c w → Laid c w′
+laid-words c w w′ same laid t q h some low =
+    let k = laid t q h some low in
+    record {
+      executes = same _ (omega arith) ∙ k .executes;
+      passes = same _ (omega arith) ∙ k .passes;
+      reaches = rw (same (reachAt t q) (omega arith)) (k .reaches);
+    }
+
+-- two slacks that stand at one place are of rests after one task, with first modules of as many cores
+slack-place : (t p b t′ q b′ : ℕ) → p ≤ 32 → b ≤ 32 → q ≤ 32 → b′ ≤ 32 → slackAt t p b ≡ slackAt t′ q b′ → p ≡ q
+slack-place t p b t′ q b′ h u g v e =
+    let task : t ≡ t′ = ⊎-elim (λ d. absurd (omega arith)) (λ d. ⊎-elim (λ f. absurd (omega arith)) (λ f. omega arith) (lt-or-le t′ t)) (lt-or-le t t′) in
+    ⊎-elim (λ d. absurd (omega arith)) (λ d. ⊎-elim (λ f. absurd (omega arith)) (λ f. omega arith) (lt-or-le q p)) (lt-or-le p q)
+
+-- ---- one task ended, number of cores by number of cores
+
+-- modules of fewer than q cores that end with l are pushed, and no others
+pub record Ended (c : Chain) (n : ℕ) (w₀ w : List ℕ) (l q : ℕ) : Type 0 where
+  pub long : length w ≡ length w₀
+  pub laid : Laid c w
+  pub done : (t p b : ℕ) → t < c .tasks → 1 ≤ p → p < q → p ≤ b → b ≤ c .board → getD w (slackAt t p b) 0 ≡ afterOn c n (l - 1) t p b
+  pub left : (t p b : ℕ) → t < c .tasks → q ≤ p → p ≤ b → b ≤ c .board → getD w (slackAt t p b) 0 ≡ afterOn c n l t p b
+
+module _ (c : Chain) (n : ℕ) (low : n ≤ topThreshold) (few : c .tasks ≤ 12) (board : c .board ≤ 32) (w₀ : List ℕ) (l : ℕ) (some : 1 ≤ l) (inside : l ≤ c .tasks) where
+  pub ended-none : Laid c w₀ → FilledAfter c n w₀ l → Ended c n w₀ w₀ l 1
+  ended-none laid filled = record {
+    long = refl;
+    laid = laid;
+    done = λ t p b h g u. absurd (omega arith);
+    left = λ t p b h u v x. filled t p b h u v x;
+  }
+
+  -- rests that start after l or later know no module that ends with l
+  rest-same : (t p b : ℕ) → l ≤ t → 1 ≤ p → b ≤ c .board → afterOn c n l t p b ≡ afterOn c n (l - 1) t p b
+  rest-same t p b h u v = after-slack c n low l t p b h u (omega arith) ∙ sym (after-slack c n low (l - 1) t p b (omega arith) u (omega arith))
+
+  module _ (w : List ℕ) (q : ℕ) (positive : 1 ≤ q) (ended : Ended c n w₀ w l q) where
+    -- the row l holds the slacks of the rests after it
+    pub ended-row : l < c .tasks → RowFilled c n w l
+    ended-row h p b u v x = ⊎-elim
+        (λ d. ended .done l p b h u d v x ∙ after-slack c n low (l - 1) l p b (omega arith) u (omega arith))
+        (λ d. ended .left l p b h d v x ∙ after-slack c n low l l p b (le-refl l) u (omega arith))
+        (lt-or-le p q)
+
+    pub ended-more : (w′ : List ℕ) → q ≤ c .board → Pushed c w w′ (oneOn c n l q) (anyOn c n l q) 0 l q → Ended c n w₀ w′ l (q + 1)
+    ended-more w′ inner pushed = record {
+      long = pushed .long ∙ ended .long;
+      laid = laid-words c w w′ (λ j h. pushed .kept j (λ t b f g u v e. omega arith)) (ended .laid);
+      done = λ t p b h g u v x. ⊎-elim
+          (λ d. other t p b h (λ e. omega arith) v x ∙ ended .done t p b h g d v x)
+          (λ d. let e : p ≡ q = omega arith in rw e (own t b h (omega arith) x))
+          (lt-or-le p q);
+      left = λ t p b h u v x. other t p b h (λ e. omega arith) v x ∙ ended .left t p b h (omega arith) v x;
+    }
+      where
+        other : (t p b : ℕ) → t < c .tasks → (p ≡ q → ⊥) → p ≤ b → b ≤ c .board → getD w′ (slackAt t p b) 0 ≡ getD w (slackAt t p b) 0
+        other t p b h x u v = pushed .kept (slackAt t p b) (λ t′ b′ f g y z e. x (slack-place t p b t′ q b′ (omega arith) (omega arith) (omega arith) (omega arith) e))
+
+        own : (t b : ℕ) → t < c .tasks → q ≤ b → b ≤ c .board → getD w′ (slackAt t q b) 0 ≡ afterOn c n (l - 1) t q b
+        own t b h u v = ⊎-elim
+            (λ d.
+            let z : l - 1 + 1 ≡ l = omega arith in
+            pushed .made t b (omega arith) d u v
+            ∙ rw (ended .left t q b h (le-refl q) u v, ends-same (fitsOn c) (replicableOn c) (bodyOn c) (λ i p b. oneOn c n l q b) (oneOn c n) (λ i p b. anyOn c n l q b) (anyOn c n) t q b l refl refl) refl
+            ∙ sym (rw z at (after-next c n low (l - 1) t q b (omega arith))))
+            (λ d.
+            pushed .kept (slackAt t q b) (λ t′ b′ f g y x e. omega arith) ∙ ended .left t q b h (le-refl q) u v ∙ rest-same t q b d positive v)
+            (lt-or-le t l)
+
+  pub ended-all : (w : List ℕ) (q : ℕ) → c .board < q → Ended c n w₀ w l q → FilledAfter c n w (l - 1)
+  ended-all w q over ended t p b h u v x = ended .done t p b h u (omega arith) v x
+
+-- ---- the whole table
+
+pub cleared-after : (c : Chain) (n : ℕ) → n ≤ topThreshold → c .tasks ≤ 12 → c .board ≤ 32 → (w w′ : List ℕ) → Cleared w w′ (c .tasks * 1089) → FilledAfter c n w′ (c .tasks)
+cleared-after c n low few board w w′ cleared t q b h u v x = cleared .made (slackAt t q b) (omega arith) ∙ sym (after-start c n low t q b)
+
+pub filled-all : (c : Chain) (n : ℕ) → n ≤ topThreshold → c .board ≤ 32 → (w : List ℕ) → FilledAfter c n w 0 → AllFilled c n w
+filled-all c n low board w filled t h q b u v x = filled t q b h u v x ∙ after-slack c n low 0 t q b (omega arith) u (omega arith)

@@ -1,0 +1,5 @@
+pub mod Ending
+pub mod Hunting
+pub mod Laying
+pub mod Pushing
+pub mod Rows

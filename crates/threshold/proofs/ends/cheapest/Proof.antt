@@ -1,0 +1,143 @@
+-- `cheapest` keeps a row whose least entry up to c is the cheapest transfer so far to a rest of at most c cores: each next module is
+-- entered at the fewest cores of a rest that it can lead. `settle` then takes the least up to each entry.
+use Prim.Native.Nat.{_+_, _-_, _≤_, _<_}
+use native.Mathlib.Nat.{le-refl}
+use native.Mathlib.Omega.{arith}
+use mathlib.Core.Path.{_≡_, sym, _∙_}
+use lib.ListN.{length, length-set}
+use borrow.Author.Needs.{needs}
+use Rattle.modules.specs.Model.{chainOf}
+use Rattle.threshold.proofs.Rows.{unsent-before, blank-length, blank-entry, blank-cheapest, Entered, entered-none, entered-more, entered-all}
+use Rattle.threshold.proofs.ends.cheapest.Statement.{statement}
+use Rattle.threshold.proofs.ends.cheapest.Tie as tie
+
+abbrev Inv-loop : tie.InvT-loop
+Inv-loop costs board work l q row₀ end base i₀ row i =
+    let c = chainOf costs board in
+    (length row ≡ 33) × (1 ≤ i) × (i ≤ end + 1)
+    × Entered c work l q end row i
+
+abbrev μ-loop : tie.MeasureT-loop
+μ-loop costs board work l q row₀ end base i₀ row i = end + 1 - i
+
+returns : tie.Need-returns Inv-loop μ-loop
+returns c =
+    let b = c .before .before .before .before .before in
+    let a = b .args in
+    λ n filled. blank-cheapest (chainOf (a .costs .now) (a .board)) n (a .row .now) (a .l) (a .q) (c .if1 .taken) (omega arith) (b .pre .5)
+
+sub-end : tie.Need-sub-end Inv-loop μ-loop
+sub-end c = search needs
+
+cast-end : tie.Need-cast-end Inv-loop μ-loop
+cast-end c = search needs
+
+mul-base : tie.Need-mul-base Inv-loop μ-loop
+mul-base c = omega arith
+
+loop-holds : tie.Need-loop-holds Inv-loop μ-loop
+loop-holds c =
+    let b = c .before .before .before .before .before .before in
+    let a = b .args in
+    let blank = b .pre .5 in
+    let before : a .l < a .board .tasks = omega arith in (
+      blank-length (a .row .now) _ blank,
+      le-refl 1,
+      omega arith,
+      entered-none (chainOf (a .costs .now) (a .board)) (a .work .now) (a .l) (a .q) _ (omega arith) (omega arith) (a .row .now) (λ j h. blank-entry (a .row .now) _ j blank (omega arith) ∙ unsent-before (a .board .tasks) (a .l) before),
+    )
+
+cast-loop : tie.Need-cast-loop Inv-loop μ-loop
+cast-loop c = search needs
+
+transfer-requires : tie.Need-transfer-requires Inv-loop μ-loop
+transfer-requires c κs = search needs
+
+cast-from : tie.Need-cast-from Inv-loop μ-loop
+cast-from c = search needs
+
+mul-first-served : tie.Need-mul-first-served Inv-loop μ-loop
+mul-first-served c = omega arith
+
+add-first-served : tie.Need-add-first-served Inv-loop μ-loop
+add-first-served c = omega arith
+
+first-served-requires : tie.Need-first-served-requires Inv-loop μ-loop
+first-served-requires c κs = (omega arith, omega arith)
+
+mul-own : tie.Need-mul-own Inv-loop μ-loop
+mul-own c = omega (arith, c .first-served .ensures .high)
+
+slice-read-own : tie.Need-slice-read-own Inv-loop μ-loop
+slice-read-own c = omega (arith, c .before .first-served .ensures .high)
+
+lesser-requires : tie.Need-lesser-requires Inv-loop μ-loop
+lesser-requires c κs = search needs
+
+mul-row : tie.Need-mul-row Inv-loop μ-loop
+mul-row c = omega (arith, c .before .before .first-served .ensures .high)
+
+slice-write-row : tie.Need-slice-write-row Inv-loop μ-loop
+slice-write-row c = omega (arith, c .before .before .first-served .ensures .high)
+
+add-i : tie.Need-add-i Inv-loop μ-loop
+add-i c = omega arith
+
+loop-less : tie.Need-loop-less Inv-loop μ-loop
+loop-less c = omega arith
+
+loop-again : tie.Need-loop-again Inv-loop μ-loop
+loop-again c =
+    let o = c .before .before .before .before .before .loop in
+    let a = c .before .before .before .before .before .before .before .before .before .before .before .before .args in
+    let first = c .before .before .first-served in
+    let v = c .lesser .result in (
+      length-set (o .row) (first .result) v ∙ o .inv .0,
+      omega arith,
+      omega arith,
+      entered-more (chainOf (a .costs .now) (a .board)) (a .work .now) (a .l) (a .q) _ (omega arith) (omega arith) (o .row) (o .i) _ (first .result) v (o .inv .1)
+          (c .before .before .before .transfer .ensures) (first .ensures) (omega (arith, first .ensures .high)) (c .lesser .ensures) (o .inv .3),
+    )
+
+settle-requires : tie.Need-settle-requires Inv-loop μ-loop
+settle-requires c κs = omega arith
+
+same-length : tie.Need-same-length Inv-loop μ-loop
+same-length c = c .before .before .settle .kept .0 ∙ c .before .before .before .before .before .loop .inv .0
+    ∙ sym (blank-length _ _ (c .before .before .before .before .before .before .before .before .before .before .before .before .pre .5))
+
+returns-2 : tie.Need-returns-2 Inv-loop μ-loop
+returns-2 c =
+    let o = c .before .before .before .before .before .loop in
+    let a = c .before .before .before .before .before .before .before .before .before .before .before .before .args in
+    λ n filled b low. c .before .before .settle .ensures b (omega arith)
+    ∙ entered-all (chainOf (a .costs .now) (a .board)) (a .work .now) (a .l) (a .q) _ (omega arith) (omega arith) (o .row) (o .i) (omega arith) (o .inv .3) n (filled (omega arith)) b (omega arith)
+
+pub cheapest-spec : {M : Type 1} → statement M
+cheapest-spec =
+    tie.close
+    (tie.spec
+    Inv-loop
+    μ-loop
+    returns
+    sub-end
+    cast-end
+    mul-base
+    loop-holds
+    cast-loop
+    transfer-requires
+    cast-from
+    mul-first-served
+    add-first-served
+    first-served-requires
+    mul-own
+    slice-read-own
+    lesser-requires
+    mul-row
+    slice-write-row
+    add-i
+    loop-less
+    loop-again
+    settle-requires
+    same-length
+    returns-2)

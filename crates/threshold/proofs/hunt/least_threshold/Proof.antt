@@ -1,0 +1,71 @@
+-- `least_threshold` refuses where there is no room; else the words are laid, the bracket starts with all thresholds, and halving decides it.
+use mathlib.Core.Path.{refl, _∙_}
+use borrow.Author.Needs.{needs}
+use borrow.Author.Tests.{not-true, not-false}
+use Rattle.modules.specs.Model.{chainOf}
+use Rattle.threshold.proofs.Hunting.{bracket-start, searched-refused, searched-decided}
+use Rattle.threshold.proofs.hunt.least_threshold.Statement.{statement}
+use Rattle.threshold.proofs.hunt.least_threshold.Tie as tie
+
+has-room-requires : tie.Need-has-room-requires
+has-room-requires c κs = search needs
+
+add-result : tie.Need-add-result
+add-result c = search needs
+
+returns : tie.Need-returns
+returns c =
+    let a = c .before .before .before .before .args in
+    searched-refused (chainOf (a .costs .now) (a .board)) (a .board) (a .work .now) (c .before .has-room .ensures .1 (not-true _ (c .if1 .taken))) refl
+
+lay-requires : tie.Need-lay-requires
+lay-requires c κs =
+    c .before .before .has-room .ensures .0 (not-false _ (c .before .if1 .left))
+
+start-requires : tie.Need-start-requires
+start-requires c κs = search needs
+
+jump-requires : tie.Need-jump-requires
+jump-requires c κs =
+    let room = c .before .before .before .before .before .before .before .has-room .ensures .0 (not-false _ (c .before .before .before .before .before .before .if1 .left)) in
+    let a = c .before .before .before .before .before .before .before .before .before .before .args in
+    let l = c .before .before .before .before .lay .ensures in
+    let h = c .before .start .ensures in
+    (rw (l .0) room, l .1, bracket-start (chainOf (a .costs .now) (a .board)) (h .0) (h .1))
+
+halve-requires : tie.Need-halve-requires
+halve-requires c κs =
+    let room = c .before .before .before .before .before .before .before .before .before .before .before .has-room .ensures .0 (not-false _ (c .before .before .before .before .before .before .before .before .before .before .if1 .left)) in
+    let l = c .before .before .before .before .before .before .before .before .lay .ensures in
+    let j = c .before .before .before .jump .ensures in
+    (rw (j .0 ∙ l .0) room, j .1, j .2)
+
+zero-requires : tie.Need-zero-requires
+zero-requires c κs = search needs
+
+same-length : tie.Need-same-length
+same-length c = search needs
+
+returns-2 : tie.Need-returns-2
+returns-2 c =
+    let room = c .before .before .before .before .before .before .before .before .before .before .before .before .before .before .before .before .before .before .has-room .ensures .0 (not-false _ (c .before .before .before .before .before .before .before .before .before .before .before .before .before .before .before .before .before .if1 .left)) in
+    let a = c .before .before .before .before .before .before .before .before .before .before .before .before .before .before .before .before .before .before .before .before .before .args in
+    let l = c .before .before .before .before .before .before .before .before .before .before .before .before .before .before .before .lay .ensures in
+    let j = c .before .before .before .before .before .before .before .before .before .before .jump .ensures in
+    let r = c .before .before .before .before .before .before .halve .ensures in
+    searched-decided (chainOf (a .costs .now) (a .board)) (a .board) (a .work .now) _ room (r .1) (r .0 ∙ j .0 ∙ l .0) (c .before .before .zero .ensures)
+
+pub least-threshold-spec : {M : Type 1} → statement M
+least-threshold-spec =
+    tie.close
+    (tie.spec
+    has-room-requires
+    add-result
+    returns
+    lay-requires
+    start-requires
+    jump-requires
+    halve-requires
+    zero-requires
+    same-length
+    returns-2)
