@@ -1,6 +1,6 @@
 //! The benchmark: `cargo run --release`. Times Best plan of the static library beside the same search in Rust, the dynamic
-//! program of source document 000 and, where the file is small, trying all plans; and filling in costs from laws, and a
-//! timetable, beside the same in Rust.
+//! program of source document 000 and, where the file is small, trying all plans, and on boards of several sizes; and filling in
+//! costs from laws, and a timetable, beside the same in Rust.
 
 use std::hint::black_box;
 use std::time::Instant;
@@ -11,6 +11,7 @@ use reference::costs::{self, Chain, MOST_CORES, MOST_TASKS, RECORD_BYTES};
 use reference::every::{self, WORK_WORDS};
 use reference::laws::{Law, Laws};
 use reference::plan::{self, Module, PLAN_BYTES};
+use reference::services::QUICK_REFERENCE;
 use reference::timetable::MOST_BLOCKS;
 use reference::{filling, library, paper, recurrence, threshold};
 
@@ -68,7 +69,17 @@ fn unlimited(kind: Kind, tasks: usize, cores: usize) -> Chain {
     }
 }
 
-/// Realistic costs, then adversarial ones, then the first with the greatest D.
+/// Any costs, with the needs, flags, limits and D that they come with: the first file that has a need and a plan.
+fn random_with_memory(tasks: usize, cores: usize) -> Chain {
+    let mut files = (0..).map(|seed| cases::sized(Kind::Random, tasks, cores, seed));
+    let found = files.find(|case| {
+        let has_needs = case.chain().needs.iter().any(|&need| need > 0);
+        has_needs && QUICK_REFERENCE.has_plan(&case.costs)
+    });
+    found.expect("some seed has such a file").chain()
+}
+
+/// Realistic costs, then adversarial ones, then the first with the greatest D, then any with memory needs.
 fn files(tasks: usize, cores: usize) -> Vec<(&'static str, Chain)> {
     let realistic = unlimited(Kind::Realistic, tasks, cores);
     // a module of two tasks needs three cores
@@ -88,6 +99,7 @@ fn files(tasks: usize, cores: usize) -> Vec<(&'static str, Chain)> {
         ("one plan hidden", unlimited(Kind::Hidden, tasks, cores)),
         ("all equal", cases::constant(tasks, cores, 1_000)),
         ("realistic, D = 255", handed_out),
+        ("random, memory", random_with_memory(tasks, cores)),
     ]
 }
 
@@ -100,7 +112,7 @@ fn with_memory(capacity: u32, needs: Vec<u32>) -> Chain {
     }
 }
 
-/// Modules of at most three tasks (document 02, M-102), and no plan, so that a search is one table.
+/// Modules of at most three tasks (document 02, M-102), and no plan, so that a search is one slack table, or three.
 fn short_files() -> [(&'static str, Chain); 2] {
     // every fourth task needs more than the board has, the others nothing
     let walls = [0, 0, 0, MOST_CORES as u32 + 1].repeat(MOST_TASKS / 4);
@@ -141,9 +153,36 @@ fn print_row(name: &str, chain: &Chain, searches: &[Search], in_a_run: usize) {
     println!();
 }
 
-fn print_rows(tasks: usize, cores: usize, searches: &[Search]) {
+fn print_rows(tasks: usize, cores: usize, searches: &[Search], in_a_run: usize) {
     for (name, chain) in files(tasks, cores) {
-        print_row(name, &chain, searches, 1);
+        print_row(name, &chain, searches, in_a_run);
+    }
+}
+
+const SOME_TASKS: [usize; 4] = [3, 6, 9, 12];
+const SOME_CORES: [usize; 4] = [4, 8, 16, 32];
+
+/// A run makes so many searches of a board, since on the least one takes some microseconds.
+const BOARD_SEARCHES: usize = 20;
+
+/// How the library's time grows with the tasks and cores, on realistic costs.
+fn print_growth() {
+    println!("\nBest plan of the library on realistic costs, in microseconds, by tasks and cores:");
+    print!("tasks");
+    SOME_CORES
+        .iter()
+        .for_each(|cores| print!(" {:>10}", format!("{cores} cores")));
+    println!();
+    for tasks in SOME_TASKS {
+        let files = SOME_CORES.map(|cores| costs::write(&unlimited(Kind::Realistic, tasks, cores)));
+        let mut runs = files
+            .each_ref()
+            .map(|costs| repeated(costs, &LIBRARY, BOARD_SEARCHES));
+        print!("{tasks:>5}");
+        medians(&mut runs)
+            .iter()
+            .for_each(|time| print!(" {:>10.1}", time * 1e3 / BOARD_SEARCHES as f64));
+        println!();
     }
 }
 
@@ -233,9 +272,9 @@ fn print_timetables() {
 
 const NOTES: &str = "\
 Reading the file is included, and so is the clearing of buffers: library and threshold clear the whole work area of 16,384
-words before and after the search. threshold is the library's search in Rust; paper finds the bottleneck only, in tables of
-its own, megabytes at 32 cores; every tries all plans. The files of three tasks allow no longer module; two of them have no
-plan: a search is one table.";
+words twice, when the least threshold is found and at the end. threshold is the library's search in Rust; paper finds the
+bottleneck only, in tables of its own, megabytes at 32 cores; every tries all plans. The files of three tasks allow no longer
+module; two of them have no plan: a search is one slack table, or three.";
 
 fn main() {
     println!("Best plan: medians of {RUNS} runs in milliseconds, one run of each search in turn.");
@@ -244,14 +283,15 @@ fn main() {
         "tasks cores  {:<24} {:>10} {:>10} {:>10} {:>10} {:>11} {:>11} {:>11}",
         "costs", "library", "threshold", "paper", "every", "lib/thresh.", "paper/lib", "every/lib"
     );
-    print_rows(MOST_TASKS, MOST_CORES, &[LIBRARY, THRESHOLD, PAPER]);
+    print_rows(MOST_TASKS, MOST_CORES, &[LIBRARY, THRESHOLD, PAPER], 1);
     let (name, chain) = short_file_with_plan();
     print_row(name, &chain, &[LIBRARY, THRESHOLD, PAPER], 1);
     for (name, chain) in short_files() {
         print_row(name, &chain, &[LIBRARY, THRESHOLD], SHORT_SEARCHES);
     }
-    print_rows(8, 16, &[LIBRARY, THRESHOLD, PAPER]);
-    print_rows(5, 10, &[LIBRARY, THRESHOLD, PAPER, EVERY]);
+    print_rows(8, 16, &[LIBRARY, THRESHOLD, PAPER], 10);
+    print_rows(5, 10, &[LIBRARY, THRESHOLD, PAPER, EVERY], 50);
+    print_growth();
     print_filling();
     print_timetables();
 }

@@ -1,19 +1,29 @@
 //! Best plan by thresholds, in the lent words: the static library's algorithm, loop for loop, in plain Rust.
 //!
-//! Fractions whose denominators are at most 32 are equal or at least 1/1024 apart. So the least n for which some plan has
-//! every response · 1024 at most n · copies is found by bisection, and all plans within that n have equal bottlenecks. A core
-//! weighs more than any single-block time, so of these the lightest plan has fewest cores, and least time among those.
+//! A plan is within the threshold n if every response · 1024 is at most n · copies. Fractions whose denominators are at most 32 are
+//! equal or at least 1/1024 apart, so all plans within the least n that some plan is within have equal bottlenecks. Whether some plan
+//! is within an n, the slack table of n says; where there is one, it is read off and judged, and the search goes on below its own
+//! bottleneck. A core weighs more than any single-block time, so of the plans within the least n the lightest has fewest cores, and
+//! least time among those.
 
+mod guess;
+mod hunt;
+pub(crate) mod judged;
+mod laid;
 pub(crate) mod lookup;
+pub(crate) mod records;
+mod sketch;
+mod slack;
 mod table;
 mod walk;
+mod words;
 
-use crate::answer::{Answer, Refusal};
-use crate::costs;
+use crate::answer::{Answer, Refusal, answer};
 use crate::every::WORK_WORDS;
-use crate::judge;
-use crate::plan::{self, PLAN_BYTES};
+use crate::plan::{self, Module, PLAN_BYTES};
 use lookup::Lookup;
+
+pub use hunt::{JUMPS, Least, MOST_TRIES};
 
 /// A threshold counts in such parts of a tick.
 pub const GRAIN: u64 = 1024;
@@ -26,36 +36,42 @@ const UNIT: u32 = 1 << 25;
 
 /// Answers and leaves the lent bytes and words as `every::best_plan` does.
 pub fn best_plan(costs: &[u8], plan: &mut [u8], work: &mut [u32]) -> Answer {
-    if let Err(refusal) = costs::read(costs) {
-        return refusal.into();
-    }
-    if let Err(refusal) = plan::enough_bytes(plan) {
-        return refusal.into();
-    }
-    if work.len() < WORK_WORDS {
-        return Refusal::new(8).into();
-    }
-    let costs_at = Lookup::with_reaches(costs);
-    work.fill(0);
-    let found = search(&costs_at, work);
-    work.fill(0);
-    match found {
-        None => Refusal::new(9).into(),
-        Some(bytes) => {
-            plan[..PLAN_BYTES].copy_from_slice(&bytes);
-            judge::judge(costs, plan)
-        }
-    }
+    answer(planned(costs, plan, work))
 }
 
-/// The bytes of the best plan, or none if no plan keeps the rules.
-fn search(costs: &Lookup, work: &mut [u32]) -> Option<[u8; PLAN_BYTES]> {
-    if weight_within(costs, work, TOP) >= none(costs) {
+fn planned(costs: &[u8], plan: &mut [u8], work: &mut [u32]) -> Result<Answer, Refusal> {
+    records::test(costs)?;
+    plan::enough_bytes(plan)?;
+    if work.len() < WORK_WORDS {
+        return Err(Refusal::new(8));
+    }
+    let costs = Lookup::new(costs);
+    let found = search(costs, work);
+    work.fill(0);
+    let modules = found.ok_or(Refusal::new(9))?;
+    plan[..PLAN_BYTES].copy_from_slice(&plan::encode(&modules));
+    Ok(judged::figures(&costs, &modules))
+}
+
+/// The best plan, or none if no plan keeps the rules.
+fn search(costs: Lookup, work: &mut [u32]) -> Option<Vec<Module>> {
+    let n = hunt::least_threshold(&costs, work).threshold;
+    if TOP < n {
         return None;
     }
-    let n = least_threshold(costs, work);
-    let weight = weight_within(costs, work, n);
-    Some(walk::lay_path(costs, work, n, weight))
+    let costs = costs.with_reaches();
+    let weight = weight_within(&costs, work, n);
+    Some(walk::lay_path(&costs, work, n, weight))
+}
+
+/// The least threshold of the plans of an accepted file.
+pub fn least_threshold(costs: &[u8]) -> Least {
+    hunt::least_threshold(&Lookup::new(costs), &mut [0; WORK_WORDS])
+}
+
+/// The least threshold that a response of so many copies is within.
+fn threshold_of(response: u64, copies: u64) -> u64 {
+    (response * GRAIN).div_ceil(copies)
 }
 
 /// Heavier than every plan on the board: one core too many.
@@ -67,18 +83,4 @@ fn none(costs: &Lookup) -> u32 {
 fn weight_within(costs: &Lookup, work: &mut [u32], n: u64) -> u32 {
     table::fill(costs, work, n);
     table::least_weight(costs, work, n)
-}
-
-/// By bisection, where some plan is within the greatest threshold.
-fn least_threshold(costs: &Lookup, work: &mut [u32]) -> u64 {
-    let (mut lo, mut hi) = (0, TOP);
-    while lo < hi {
-        let mid = lo + (hi - lo) / 2;
-        if weight_within(costs, work, mid) < none(costs) {
-            hi = mid;
-        } else {
-            lo = mid + 1;
-        }
-    }
-    lo
 }

@@ -8,6 +8,7 @@ use reference::random::Random;
 use reference::round;
 use reference::services::{LIBRARY, QUICK_REFERENCE};
 use reference::tally::Tally;
+use reference::threshold::{self, JUMPS, MOST_TRIES};
 
 /// Best plan by both searches and both dynamic programs, the greedy plan with some groupings, Judge, the single-block time and a
 /// timetable on these plans, and the reaches.
@@ -52,6 +53,22 @@ fn most_tasks_and_cores() {
     tally.assert_at_least("best plan: refusal 9", 4);
     tally.assert_at_least("best plan: several modules", 10);
     tally.assert_at_least("reach: shorter than by needs added up", 12);
+}
+
+/// Searches that the guesses do not end: their last tries halve what is left.
+#[test]
+fn more_tries_than_are_guessed() {
+    let files = [
+        (Kind::TightMemory, 177),
+        (Kind::Hidden, 5),
+        (Kind::Hidden, 1_262),
+    ]
+    .map(|(kind, seed)| cases::sized(kind, MOST_TASKS, MOST_CORES, seed));
+    for case in &files {
+        let tries = threshold::least_threshold(&case.costs).tries;
+        assert!(JUMPS < tries && tries <= MOST_TRIES, "{tries} tries");
+    }
+    check_all("12 tasks, 32 cores, many tries", files.into_iter());
 }
 
 /// All times equal; in the last four chains with the greatest D (document 02, M-106), in the very last of which a core holds one task

@@ -2,7 +2,9 @@
 //! reaches, worked out once where they are asked for.
 
 use crate::costs::{DISPATCH, MOST_TASKS, RECORD_BYTES};
+use crate::plan::Module;
 
+#[derive(Clone, Copy)]
 pub struct Lookup<'a> {
     bytes: &'a [u8],
     pub tasks: usize,
@@ -29,12 +31,11 @@ impl<'a> Lookup<'a> {
         costs
     }
 
-    pub fn with_reaches(bytes: &'a [u8]) -> Lookup<'a> {
-        let mut costs = Lookup::new(bytes);
-        for t in 0..costs.tasks {
-            costs.reaches[t] = costs.farthest(t + 1) as u8;
+    pub fn with_reaches(mut self) -> Lookup<'a> {
+        for t in 0..self.tasks {
+            self.reaches[t] = self.farthest(t + 1) as u8;
         }
-        costs
+        self
     }
 
     /// The reach of the task after task t, of which the chain has one.
@@ -71,7 +72,7 @@ impl<'a> Lookup<'a> {
         u32::from_le_bytes([bytes[0], bytes[1], bytes[2], bytes[3]]).into()
     }
 
-    fn replicable(&self, task: usize) -> bool {
+    pub fn replicable(&self, task: usize) -> bool {
         self.bytes[task * RECORD_BYTES + 2] == 1
     }
 
@@ -81,11 +82,15 @@ impl<'a> Lookup<'a> {
         limit == 0 || p <= limit
     }
 
-    fn execution(&self, task: usize, p: usize) -> u64 {
+    pub fn execution(&self, task: usize, p: usize) -> u64 {
         self.value(1 + self.tasks + (task - 1) * self.cores + p - 1)
     }
 
-    fn internal(&self, task: usize, p: usize) -> u64 {
+    /// The internal transfer after the task; 0 behind the last one.
+    pub fn internal(&self, task: usize, p: usize) -> u64 {
+        if task == self.tasks {
+            return 0;
+        }
         let start = 1 + self.tasks + self.tasks * self.cores;
         self.value(start + (task - 1) * self.cores + p - 1)
     }
@@ -111,6 +116,19 @@ impl<'a> Lookup<'a> {
     /// What it takes to hand out to r copies: D if there are several.
     pub fn dispatch_to(&self, r: usize) -> u64 {
         if r > 1 { self.dispatch } else { 0 }
+    }
+
+    /// What the module adds to a single-block time before one of q cores, 0 for none: its body, what it sends, and what it takes to
+    /// hand out to its copies.
+    pub fn passage(&self, module: Module, q: usize) -> u64 {
+        let body = self.body(module.first, module.last, module.cores);
+        let sent = self.transfer(module.last, module.cores, q);
+        body + sent + self.dispatch_to(module.copies)
+    }
+
+    /// The response of the module between one of s cores and one of q, 0 for none.
+    pub fn response(&self, s: usize, module: Module, q: usize) -> u64 {
+        self.transfer(module.first - 1, s, module.cores) + self.passage(module, q)
     }
 
     /// What each of p cores holds of the task (document 02, M-103): its need ÷ p, rounded up.
@@ -140,12 +158,15 @@ impl<'a> Lookup<'a> {
         if r > 1 && !self.copies_allowed(first, last) {
             return false;
         }
+        if !self.memory_fits(first, last, p) {
+            return false;
+        }
         for task in first..=last {
             if !self.within_limit(task, p) {
                 return false;
             }
         }
-        self.memory_fits(first, last, p)
+        true
     }
 }
 
@@ -166,7 +187,7 @@ mod tests {
         });
         for Case { seed, costs, .. } in small.chain(large) {
             let chain = costs::read(&costs).expect("an accepted file");
-            let twin = Lookup::with_reaches(&costs);
+            let twin = Lookup::new(&costs).with_reaches();
             for t in 0..chain.tasks {
                 let due = reach::reach_of(&chain, t + 1);
                 assert_eq!(twin.reach_after(t), due, "seed {seed}, task {}", t + 1);

@@ -3,7 +3,7 @@
 use super::lookup::Lookup;
 use super::table;
 use super::{GRAIN, UNIT};
-use crate::plan::{self, Module, PLAN_BYTES};
+use crate::plan::Module;
 
 /// The threshold and its table.
 struct Within<'a> {
@@ -35,19 +35,13 @@ impl Within<'_> {
         if !self.costs.rules_met(first, last, copies, cores) {
             return false;
         }
-        let received = self.costs.transfer(first - 1, s, cores);
-        let sent = self.costs.transfer(last, cores, q);
-        let body = self.costs.body(first, last, cores);
-        let response = received + body + sent + self.costs.dispatch_to(copies);
-        response * GRAIN <= self.n * copies as u64
+        self.costs.response(s, module, q) * GRAIN <= self.n * copies as u64
     }
 
-    /// What the module weighs before one of q cores: its cores, its body, what it sends, and what it takes to hand out to its copies.
-    /// The board has as many cores, so that this fits 32 bits.
+    /// What the module weighs before one of q cores: its cores, and what it adds to the single-block time. The board has as many
+    /// cores, so that this fits 32 bits.
     fn price(&self, module: Module, q: usize) -> u32 {
-        let stay = self.costs.body(module.first, module.last, module.cores);
-        let sent = self.costs.transfer(module.last, module.cores, q);
-        let ticks = stay + sent + self.costs.dispatch_to(module.copies);
+        let ticks = self.costs.passage(module, q);
         (module.copies * module.cores) as u32 * UNIT + ticks as u32
     }
 
@@ -109,7 +103,7 @@ impl Within<'_> {
 }
 
 /// The first plan in module order of this weight within n, from the table of n.
-pub fn lay_path(costs: &Lookup, work: &[u32], n: u64, weight: u32) -> [u8; PLAN_BYTES] {
+pub fn lay_path(costs: &Lookup, work: &[u32], n: u64, weight: u32) -> Vec<Module> {
     let within = Within { costs, work, n };
     let mut path = Vec::new();
     let mut passed = Passed {
@@ -132,5 +126,5 @@ pub fn lay_path(costs: &Lookup, work: &[u32], n: u64, weight: u32) -> [u8; PLAN_
             left: room,
         };
     }
-    plan::encode(&path)
+    path
 }
