@@ -2,8 +2,9 @@
 //! is for the benchmark; what is to be filled in, `laws` says.
 
 use crate::answer::{Filled, Refusal};
-use crate::costs::{Key, MOST_CORES, MOST_TASKS, MOST_VALUE, RECORD_BYTES};
+use crate::costs::{Key, MOST_VALUE, RECORD_BYTES};
 use crate::laws::{LAW_BYTES, Law, coefficients};
+use crate::threshold::records;
 
 /// Answers and leaves the output as `laws::fill_costs` does. Nothing is allocated.
 pub fn fill_costs(head: &[u8], laws: &[u8], out: &mut [u8]) -> Filled {
@@ -12,7 +13,7 @@ pub fn fill_costs(head: &[u8], laws: &[u8], out: &mut [u8]) -> Filled {
 
 /// All laws are tested, then all their values, which are evaluated once more to be written.
 fn filled(head: &[u8], laws: &[u8], out: &mut [u8]) -> Result<Filled, Refusal> {
-    let (tasks, cores) = read_head(head)?;
+    let (tasks, cores) = records::sizes(head, |tasks, _| 1 + tasks)?;
     if !laws_meet(laws, tasks) {
         return Err(Refusal::new(17));
     }
@@ -20,8 +21,7 @@ fn filled(head: &[u8], laws: &[u8], out: &mut [u8]) -> Result<Filled, Refusal> {
     if !costs.clone().all(|cost| cost.within(cores)) {
         return Err(Refusal::new(18));
     }
-    let records = 1 + tasks + (2 * tasks - 1) * cores + (tasks - 1) * cores * cores;
-    let bytes = records * RECORD_BYTES;
+    let bytes = records::count(tasks, cores) * RECORD_BYTES;
     if out.len() < bytes {
         return Err(Refusal::new(19));
     }
@@ -31,39 +31,6 @@ fn filled(head: &[u8], laws: &[u8], out: &mut [u8]) -> Result<Filled, Refusal> {
         at += cost.put(cores, &mut out[at..]);
     }
     Ok(Filled::counted(bytes as u32))
-}
-
-/// The value of a cost record.
-fn value_of(record: &[u8]) -> u32 {
-    u32::from_le_bytes([record[4], record[5], record[6], record[7]])
-}
-
-/// k and P of the first part, or refusals 1 to 6.
-fn read_head(head: &[u8]) -> Result<(usize, usize), Refusal> {
-    if head.len() < RECORD_BYTES || !head.len().is_multiple_of(RECORD_BYTES) {
-        return Err(Refusal::new(1));
-    }
-    if head[0] != 1 {
-        return Err(Refusal::new(2));
-    }
-    let (tasks, cores) = (usize::from(head[3]), usize::from(head[2]));
-    let sized = (1..=MOST_TASKS).contains(&tasks) && (1..=MOST_CORES).contains(&cores);
-    if !sized || !(1..=MOST_VALUE).contains(&value_of(head)) {
-        return Err(Refusal::new(3));
-    }
-    if head.len() != (1 + tasks) * RECORD_BYTES {
-        return Err(Refusal::new(4));
-    }
-    for (task, record) in head.chunks_exact(RECORD_BYTES).enumerate().skip(1) {
-        if record[0] != 2 || usize::from(record[1]) != task {
-            return Err(Refusal::at(5, task + 1));
-        }
-        let limit = usize::from(record[3]);
-        if value_of(record) > MOST_VALUE || record[2] > 1 || limit > MOST_CORES {
-            return Err(Refusal::at(6, task + 1));
-        }
-    }
-    Ok((tasks, cores))
 }
 
 /// Whether the laws of k tasks are the due ones: their length and every record.

@@ -5,31 +5,39 @@ use crate::costs::{Key, MOST_CORES, MOST_TASKS, MOST_VALUE, RECORD_BYTES};
 
 /// Refusals 1 to 6.
 pub fn test(costs: &[u8]) -> Result<(), Refusal> {
-    if costs.len() < RECORD_BYTES || !costs.len().is_multiple_of(RECORD_BYTES) {
+    sizes(costs, count).map(|_| ())
+}
+
+/// How many records the costs of k tasks on P cores are.
+pub fn count(tasks: usize, cores: usize) -> usize {
+    1 + tasks + (2 * tasks - 1) * cores + (tasks - 1) * cores * cores
+}
+
+/// k and P of records of which so many of the costs' first are due, or refusals 1 to 6.
+pub fn sizes(records: &[u8], due_of: fn(usize, usize) -> usize) -> Result<(usize, usize), Refusal> {
+    if records.len() < RECORD_BYTES || !records.len().is_multiple_of(RECORD_BYTES) {
         return Err(Refusal::new(1));
     }
-    if costs[0] != 1 {
+    if records[0] != 1 {
         return Err(Refusal::new(2));
     }
-    let (tasks, cores) = (usize::from(costs[3]), usize::from(costs[2]));
+    let (tasks, cores) = (usize::from(records[3]), usize::from(records[2]));
     let sized = (1..=MOST_TASKS).contains(&tasks) && (1..=MOST_CORES).contains(&cores);
-    if !sized || !(1..=MOST_VALUE).contains(&value_of(costs)) {
+    if !sized || !(1..=MOST_VALUE).contains(&value_of(records)) {
         return Err(Refusal::new(3));
     }
-    let count = 1 + tasks + (2 * tasks - 1) * cores + (tasks - 1) * cores * cores;
-    if costs.len() != count * RECORD_BYTES {
+    if records.len() != due_of(tasks, cores) * RECORD_BYTES {
         return Err(Refusal::new(4));
     }
-    for (n, record) in costs.chunks_exact(RECORD_BYTES).enumerate().skip(1) {
-        let key = due(tasks, cores, n);
-        if !key_meets(record, key) {
+    for (n, record) in records.chunks_exact(RECORD_BYTES).enumerate().skip(1) {
+        if !key_meets(record, due(tasks, cores, n)) {
             return Err(Refusal::at(5, n + 1));
         }
         if !value_meets(record) {
             return Err(Refusal::at(6, n + 1));
         }
     }
-    Ok(())
+    Ok((tasks, cores))
 }
 
 fn value_of(record: &[u8]) -> u32 {
