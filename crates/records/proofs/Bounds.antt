@@ -1,9 +1,7 @@
--- Bounds of products of bytes, of places in a file, and of quotients and remainders. Assumes nothing.
-use Prim.Native.Nat.{ℕ, _+_, _-_, _*_, _/_, _%_, _≤_, _<_}
-use native.Mathlib.Nat.{div-le-self, mod-le, mul-le-mul}
+-- Bounds of products of bytes and of places in a file. Assumes nothing.
+use Prim.Native.Nat.{ℕ, _+_, _-_, _*_, _≤_, _<_}
+use native.Mathlib.Nat.{mul-le-mul}
 use native.Mathlib.Omega.{arith}
-use mir.Syntax.{w32}
-use mir.Val.{Fits}
 
 pub product-of-bytes : {x y : ℕ} → x < 256 → y < 256 → x * y ≤ 65025
 product-of-bytes h i = mul-le-mul {n₂ = 255} {m₂ = 255} (omega arith) (omega arith)
@@ -17,9 +15,3 @@ pub place-bound : {k p t : ℕ} → k < 256 → p < 256 → t < 256 → 1 + k + 
 place-bound {k} {p} {t} h i j =
     let a : (t - 1) * (p * p) ≤ 255 * 65025 = mul-le-mul {n₂ = 255} (omega arith) (product-of-bytes i i) in
     omega (arith, product-of-bytes h i, row-of-bytes h i)
-
-pub fits-quotient : (x p : ℕ) → x < 4294967295 → Fits w32 (x / p + 1)
-fits-quotient x p h = record { fits = omega (arith, div-le-self x p) }
-
-pub fits-remainder : (x p : ℕ) → x < 4294967295 → Fits w32 (x % p + 1)
-fits-remainder x p h = record { fits = omega (arith, mod-le x p) }

@@ -24,7 +24,7 @@ use Rattle.records.proofs.Walk.{faultOf, Scanned, Scanned.clean, Scanne
 -- ---- one record
 
 module _ (s : List ℕ) (n : ℕ) (d : Key) where
-  meets-bears : keyMeets s n d ≡ true → Bears s n d
+  pub meets-bears : keyMeets s n d ≡ true → Bears s n d
   unfolding keyMeets taskMeets
   meets-bears e =
       let h₂ = and-true _ _ e in
@@ -40,7 +40,7 @@ module _ (s : List ℕ) (n : ℕ) (d : Key) where
           → (eqb (byteAt s n 2) (d .a) ≡ true) × (eqb (byteAt s n 3) (d .b) ≡ true)
       both h other = and-true _ _ (or-right (eqb (d .kind) 2) _ h (ne-eqb (d .kind) 2 other))
 
-  bears-meets : Bears s n d → keyMeets s n d ≡ true
+  pub bears-meets : Bears s n d → keyMeets s n d ≡ true
   unfolding keyMeets taskMeets
   bears-meets h =
       simp (eq-eqb (byteAt s n 0) (d .kind) (h .kind), or-unless (eqb (d .kind) 1) (eqb (byteAt s n 1) (d .task)) (λ f. eq-eqb (byteAt s n 1) (d .task) (h .task (eqb-false (d .kind) 1 f))))

@@ -1,3 +1,4 @@
+pub mod Along
 pub mod Bounds
 pub mod Cases
 pub mod Exact
@@ -5,3 +6,4 @@ pub mod Laws
 pub mod Listing
 pub mod Same
 pub mod Walk
+pub mod Words

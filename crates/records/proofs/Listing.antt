@@ -71,6 +71,9 @@ module _ (w : ℕ) (f : ℕ → List Key) (long : (t : ℕ) → length (f t) ≡
       let e : 0 + j / w + 1 ≡ j / w + 1 = omega arith in
       joinFrom-at (pos-of-lt-mul j n w h) d 0 n j h ∙ ap (λ (t : ℕ). getD (f t) (j % w) d) e
 
+pub length-square : (p t : ℕ) → length (join p (λ a. each p (λ b. key 5 t a b))) ≡ p * p
+length-square p t = length-join p (λ a. each p (λ b. key 5 t a b)) (λ a. length-each 0 p (λ b. key 5 t a b)) 0 p
+
 -- ---- the whole list
 
 module _ (k p : ℕ) where
@@ -90,10 +93,6 @@ module _ (k p : ℕ) where
   unfolding square
   externals = join (k - 1) square
 
-  length-square : (t : ℕ) → length (square t) ≡ p * p
-  unfolding square
-  length-square t = length-join p (λ a. each p (λ b. key 5 t a b)) (λ a. length-each 0 p (λ b. key 5 t a b)) 0 p
-
   length-tasks : length tasks ≡ k
   unfolding tasks
   length-tasks = length-each 0 k (λ t. key 2 t 0 0)
@@ -107,8 +106,8 @@ module _ (k p : ℕ) where
   length-internals = length-join p (λ t. each p (λ a. key 4 t a 0)) (λ t. length-each 0 p (λ a. key 4 t a 0)) 0 (k - 1)
 
   length-externals : length externals ≡ (k - 1) * (p * p)
-  unfolding externals
-  length-externals = length-join (p * p) square length-square 0 (k - 1)
+  unfolding externals square
+  length-externals = length-join (p * p) square (length-square p) 0 (k - 1)
 
   pub keys-count : length (dueKeys k p) ≡ countOf k p
   unfolding dueKeys countOf tasks executions internals externals square
@@ -185,7 +184,7 @@ module _ (k p : ℕ) where
         external-key l h =
             from-internals
             ∙ getD-past internals externals ((k - 1) * p) length-internals d t l
-            ∙ join-at (p * p) square length-square d (k - 1) x h
+            ∙ join-at (p * p) square (length-square p) d (k - 1) x h
             ∙ join-at p (λ a. each p (λ b. key 5 (x / (p * p) + 1) a b)) (λ a. length-each 0 p (λ b. key 5 (x / (p * p) + 1) a b)) d p (x % (p * p)) row
             ∙ each-at p (λ b. key 5 (x / (p * p) + 1) (x % (p * p) / p + 1) b) d (x % (p * p) % p) (mod-lt (x % (p * p)) (pos-of-lt-mul (x % (p * p)) p p row))
             ∙ simp (le-ltb (n - 1) k after-tasks, le-ltb (n - 1 - k) (k * p) after-executions, le-ltb (n - 1 - k - k * p) ((k - 1) * p) l)

@@ -1,6 +1,6 @@
 -- The walk over the records against a list of keys: a turn leaves the rest as the whole, a fault decides, and the end is
 -- clean; so the walk finds the first fault, and that only. Assumes nothing.
-use mathlib.Core.Path.{_≡_, sym, ap, _∙_}
+use mathlib.Core.Path.{_≡_, _∙_}
 use mathlib.Core.List.{List}
 use mathlib.Core.Logic.{⊎-elim}
 use Prim.Native.Nat.{ℕ, zero, suc, _+_, _-_, _≤_, _<_}
@@ -13,9 +13,8 @@ use lib.Dec.{eqb}
 use borrow.Author.Tests.{eq-eqb, ne-eqb, eqb-true, eqb-false}
 use Rattle.records.specs.declared.Refusal.{Refusal}
 use Rattle.records.specs.declared.Key.{Key}
-use Rattle.records.specs.Costs.{key, dueKeys, dueKey, countOf, faultAt, firstFault}
+use Rattle.records.specs.Costs.{key, faultAt, firstFault}
 use Rattle.records.proofs.Cases.{true-or-false}
-use Rattle.records.proofs.Listing.{key-at}
 
 abbrev none : Key
 none = key 0 0 0 0
@@ -75,7 +74,3 @@ module _ (s : List ℕ) (keys : List Key) where
   scanned-only n f b (found i l u h z) =
       let e : n + (i - n) ≡ i = omega arith in
       walk-past n (i - n) (omega arith) (λ j p q. h j p (omega arith)) ∙ rw e (walk-found i u z)
-
--- the fault by the computed key is the fault by the list's
-pub fault-at : (s : List ℕ) (k p n : ℕ) {d : Key} {f : ℕ} → 1 ≤ n → n < countOf k p → d ≡ dueKey k p n → f ≡ faultAt s n d → faultOf s (dueKeys k p) n ≡ f
-fault-at s k p n l u e q = ap (faultAt s n) (key-at k p none n l u ∙ sym e) ∙ sym q

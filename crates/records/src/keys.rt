@@ -1,7 +1,6 @@
-// The due keys of a file by their place, and the test of one record against a due key.
+// How many records a file has, and the test of one record against a due key.
 ghost use mathlib.Core.Path.{_≡_};
-ghost use Prim.Native.Nat.{_≤_};
-ghost use Rattle.records.specs.Costs.{dueKey, taskMeets, keyMeets, valueMeets, faultAt, countOf};
+ghost use Rattle.records.specs.Costs.{taskMeets, keyMeets, valueMeets, faultAt, countOf};
 use crate::Key;
 use fields::byte_at;
 use fields::value_at;
@@ -25,54 +24,6 @@ pub fn count(k: u8, p: u8) -> u32
     let pairs = tasks - 1;
     let square = cores * cores;
     1 + tasks + tasks * cores + pairs * cores + pairs * square
-}
-
-// The key that record n is to have in a file of k tasks and p cores, by its place: m among the records after the first,
-// e among those after kind 2, t after kind 3 and x after kind 4.
-pub(crate) fn due(k: u8, p: u8, n: u32) -> Key
-    requires { ⌜ (1 ≤ k) × (1 ≤ p) × (1 ≤ n) ⌝ }
-    ensures { λ r. ⌜ r ≡ dueKey k p n ⌝ }
-{
-    let tasks = wide(k);
-    let cores = wide(p);
-    let executions = tasks * cores;
-    let transfers = (tasks - 1) * cores;
-    let m = n - 1;
-    if m < tasks {
-        return Key {
-            kind: 2,
-            task: n,
-            a: 0,
-            b: 0,
-        };
-    }
-    let e = m - tasks;
-    if e < executions {
-        return Key {
-            kind: 3,
-            task: e / cores + 1,
-            a: e % cores + 1,
-            b: 0,
-        };
-    }
-    let t = e - executions;
-    if t < transfers {
-        return Key {
-            kind: 4,
-            task: t / cores + 1,
-            a: t % cores + 1,
-            b: 0,
-        };
-    }
-    let x = t - transfers;
-    let square = cores * cores;
-    let y = x % square;
-    Key {
-        kind: 5,
-        task: x / square + 1,
-        a: y / cores + 1,
-        b: y % cores + 1,
-    }
 }
 
 // Whether the task byte of record n is the key's; that of kind 1 is passed over (document 02, M-106).

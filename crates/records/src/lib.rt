@@ -6,6 +6,7 @@
 // `read` says whether a byte string is a board's costs, or which of refusals 1 to 6 is due; `read_board` asks the length and the
 // first record only, refusals 1 to 3. No public function has a `requires`: each answers for every slice and every number.
 mod keys;
+mod runs;
 mod scan;
 
 pub use keys::MOST_CORES;

@@ -1,16 +1,19 @@
-// Reading a file: its first record, then the count and one walk over the records in which the earliest faulty one decides.
+// Reading a file: its first record, then the count and one walk over the records, kind by kind, in which the earliest faulty one decides.
 ghost use mathlib.Core.Path.{_≡_};
-ghost use Prim.Native.Nat.{_≤_};
-ghost use lib.ListN.{drop};
-ghost use Rattle.records.specs.Costs.{dueKeys, firstFault, boardMeets, refused, readHead, readBoard, readRecords, readCosts};
+ghost use Prim.Native.Nat.{_*_, _≤_};
+ghost use lib.ListN.{length, drop};
+ghost use Rattle.records.specs.Costs.{dueKeys, countOf, firstFault, boardMeets, refused, readHead, readBoard, readRecords, readCosts};
+ghost use Rattle.records.specs.Runs.{taskKeys};
 use crate::Board;
+use crate::Key;
 use crate::Reading;
 use crate::Refusal;
 use crate::keys::MOST_CORES;
 use crate::keys::MOST_VALUE;
 use crate::keys::count;
-use crate::keys::due;
 use crate::keys::fault;
+use crate::runs::rows;
+use crate::runs::squares;
 use fields::byte_at;
 use fields::value_at;
 
@@ -35,15 +38,19 @@ fn refuse(number: u32, place: u32) -> Reading
     }
 }
 
-// The first fault among the records after the first, of which there are as many as keys are due.
-fn first_fault(costs: &[u8], k: u8, p: u8) -> Refusal
-    requires { ⌜ (1 ≤ k) × (1 ≤ p) ⌝ }
-    ensures { λ r. ⌜ r ≡ firstFault (now (costs .entry)) 1 (drop 1 (dueKeys k p)) ⌝ }
+// The first fault among the records of kind 2, a record for each of k tasks.
+fn task_records(costs: &[u8], k: u8) -> Refusal
+    ensures { λ r. ⌜ r ≡ firstFault (now (costs .entry)) 1 (taskKeys k) ⌝ }
 {
-    let last = count(k, p) - 1;
+    let last = k as u32;
     let mut n: u32 = 1;
     while n <= last {
-        let key = due(k, p, n);
+        let key = Key {
+            kind: 2,
+            task: n,
+            a: 0,
+            b: 0,
+        };
         let f = fault(costs, n, key);
         if f != 0 {
             let place = n + 1;
@@ -55,6 +62,30 @@ fn first_fault(costs: &[u8], k: u8, p: u8) -> Refusal
         number: 0,
         place: 0,
     }
+}
+
+// The first fault among the records after the first, of which there are as many as keys are due, kind by kind.
+fn first_fault(costs: &[u8], k: u8, p: u8) -> Refusal
+    requires { ⌜ (1 ≤ k) × (length (now costs) ≡ 8 * countOf k p) ⌝ }
+    ensures { λ r. ⌜ r ≡ firstFault (now (costs .entry)) 1 (drop 1 (dueKeys k p)) ⌝ }
+{
+    let task = task_records(costs, k);
+    if task.number != 0 {
+        return task;
+    }
+    let tasks = k as u32;
+    let cores = p as u32;
+    let pairs = tasks - 1;
+    let execution = rows(costs, tasks, 3, tasks, cores);
+    if execution.number != 0 {
+        return execution;
+    }
+    let executed = tasks + tasks * cores;
+    let internal = rows(costs, executed, 4, pairs, cores);
+    if internal.number != 0 {
+        return internal;
+    }
+    squares(costs, executed + pairs * cores, pairs, cores)
 }
 
 // Whether the board's numbers are in range.
@@ -121,7 +152,7 @@ pub fn read_board(costs: &[u8]) -> Reading
 
 // The length and the records, for a board in range: refusals 4, 5 and 6.
 fn read_records(costs: &[u8], board: Board) -> Reading
-    requires { ⌜ (1 ≤ board .tasks) × (1 ≤ board .cores) ⌝ }
+    requires { ⌜ 1 ≤ board .tasks ⌝ }
     ensures { λ r. ⌜ r ≡ readRecords (now (costs .entry)) board ⌝ }
 {
     let total = count(board.tasks, board.cores);

@@ -1,80 +1,117 @@
--- `first_fault` is `firstFault` of the due keys. The loop's invariant: the walk from record n on finds what the whole walk
--- finds; the key by its place is the list's.
-use mathlib.Core.Path.{_≡_, refl, sym, _∙_}
-use Prim.Native.Nat.{_+_, _-_, _≤_}
+-- `first_fault` is `firstFault` of the due keys: the walk goes on behind each kind that is clean, and the file has the records.
+use mathlib.Core.Path.{sym, _∙_}
+use Prim.Native.Nat.{_<_}
 use native.Mathlib.Omega.{arith}
-use lib.ListN.{drop}
-use Rattle.records.specs.Costs.{dueKeys, firstFault}
-use Rattle.records.proofs.Exact.{some-records}
-use Rattle.records.proofs.Listing.{keys-count}
-use Rattle.records.proofs.Walk.{walk-next, walk-found, walk-end, fault-at}
+use Rattle.records.specs.Costs.{countOf}
+use Rattle.records.proofs.Along.{tasks-found, tasks-clean, executions-found, executions-clean, internals-found, internals-clean}
+use Rattle.records.proofs.Bounds.{place-bound}
+use borrow.Author.Needs.{needs}
 use Rattle.records.proofs.scan.first_fault.Statement.{statement}
 use Rattle.records.proofs.scan.first_fault.Tie as tie
 
-abbrev Inv-loop : tie.InvT-loop
-Inv-loop costs k p last n₀ n = (1 ≤ n) × (n ≤ last + 1) × (firstFault costs 1 (drop 1 (dueKeys k p)) ≡ firstFault costs n (drop n (dueKeys k p)))
+task-records-requires : tie.Need-task-records-requires
+task-records-requires c κs = search needs
 
-abbrev μ-loop : tie.MeasureT-loop
-μ-loop costs k p last n₀ n = last + 1 - n
-
-count-requires : tie.Need-count-requires Inv-loop μ-loop
-count-requires c κs = tt
-
-sub-last : tie.Need-sub-last Inv-loop μ-loop
-sub-last c = omega (arith, some-records (c .before .before .args .k) (c .before .before .args .p))
-
-loop-holds : tie.Need-loop-holds Inv-loop μ-loop
-loop-holds c = (omega arith, omega (arith, some-records (c .before .before .args .k) (c .before .before .args .p)), refl)
-
-due-requires : tie.Need-due-requires Inv-loop μ-loop
-due-requires c κs = omega arith
-
-fault-requires : tie.Need-fault-requires Inv-loop μ-loop
-fault-requires c κs = tt
-
-add-place : tie.Need-add-place Inv-loop μ-loop
-add-place c = omega arith
-
-returns : tie.Need-returns Inv-loop μ-loop
+returns : tie.Need-returns
 returns c =
-    let a = c .before .before .before .before .before .before .before .args in
-    let l = c .before .before .before .before .loop in
-    let e = fault-at (a .costs .now) (a .k) (a .p) (l .n) (omega arith) (omega arith) (c .before .before .due .ensures) (c .before .fault .ensures) in
-    rw (← e) (sym (l .inv .2 ∙ walk-found (a .costs .now) (dueKeys (a .k) (a .p)) (l .n) (omega (arith, keys-count (a .k) (a .p))) (λ z. c .if1 .taken (sym e ∙ z))))
+    let v = c .before .before .before .before .args in
+    tasks-found (v .costs .now) (v .k) (v .p) (c .before .before .task-records .ensures) (c .if1 .taken)
 
-add-n : tie.Need-add-n Inv-loop μ-loop
-add-n c = omega arith
+sub-pairs : tie.Need-sub-pairs
+sub-pairs c = search needs
 
-loop-less : tie.Need-loop-less Inv-loop μ-loop
-loop-less c = omega arith
+rows-requires : tie.Need-rows-requires
+unfolding countOf
+rows-requires c κs =
+    let v = c .before .before .before .before .args in
+    let long = c .before .before .before .before .pre .1 in
+    let k : v .k < 256 = omega arith in
+    let p : v .p < 256 = omega arith in
+    omega (arith, place-bound k p k)
 
-loop-again : tie.Need-loop-again Inv-loop μ-loop
-loop-again c =
-    let a = c .before .before .before .before .before .before .before .args in
-    let l = c .before .before .before .before .loop in
-    let e = fault-at (a .costs .now) (a .k) (a .p) (l .n) (omega arith) (omega arith) (c .before .before .due .ensures) (c .before .fault .ensures) in
-    (omega arith, omega arith, l .inv .2 ∙ walk-next (a .costs .now) (dueKeys (a .k) (a .p)) (l .n) (omega (arith, keys-count (a .k) (a .p))) (e ∙ c .if1 .left))
-
-returns-2 : tie.Need-returns-2 Inv-loop μ-loop
+returns-2 : tie.Need-returns-2
 returns-2 c =
-    let a = c .before .before .before .before .args in
-    let l = c .before .loop in
-    sym (l .inv .2 ∙ walk-end (a .costs .now) (dueKeys (a .k) (a .p)) (l .n) (omega (arith, keys-count (a .k) (a .p))))
+    let first = c .before .before .before in
+    let v = first .before .before .before .before .args in
+    let tasks = tasks-clean (v .costs .now) (v .k) (v .p) (first .before .before .task-records .ensures) (first .if1 .left) in
+    executions-found (v .costs .now) (v .k) (v .p) tasks (c .before .before .rows .ensures) (c .if2 .taken)
+
+add-executed : tie.Need-add-executed
+unfolding countOf
+add-executed c =
+    let v = c .before .before .before .before .before .before .before .args in
+    let long = c .before .before .before .before .before .before .before .pre .1 in
+    let k : v .k < 256 = omega arith in
+    let p : v .p < 256 = omega arith in
+    omega (arith, place-bound k p k)
+
+mul-executed : tie.Need-mul-executed
+mul-executed c = omega (arith, add-executed c)
+
+rows-requires-2 : tie.Need-rows-requires-2
+unfolding countOf
+rows-requires-2 c κs =
+    let v = c .before .before .before .before .before .before .before .args in
+    let long = c .before .before .before .before .before .before .before .pre .1 in
+    let k : v .k < 256 = omega arith in
+    let p : v .p < 256 = omega arith in
+    omega (arith, place-bound k p k)
+
+returns-3 : tie.Need-returns-3
+returns-3 c =
+    let second = c .before .before .before in
+    let first = second .before .before .before in
+    let v = first .before .before .before .before .args in
+    let tasks = tasks-clean (v .costs .now) (v .k) (v .p) (first .before .before .task-records .ensures) (first .if1 .left) in
+    let executions = executions-clean (v .costs .now) (v .k) (v .p) tasks (second .before .before .rows .ensures) (second .if2 .left) in
+    internals-found (v .costs .now) (v .k) (v .p) executions (c .before .before .rows2 .ensures) (c .if3 .taken)
+
+add-squares : tie.Need-add-squares
+unfolding countOf
+add-squares c =
+    let v = c .before .before .before .before .before .before .before .before .before .before .args in
+    let long = c .before .before .before .before .before .before .before .before .before .before .pre .1 in
+    let k : v .k < 256 = omega arith in
+    let p : v .p < 256 = omega arith in
+    omega (arith, place-bound k p k)
+
+mul-squares : tie.Need-mul-squares
+mul-squares c = omega (arith, add-squares c)
+
+squares-requires : tie.Need-squares-requires
+unfolding countOf
+squares-requires c κs =
+    let v = c .before .before .before .before .before .before .before .before .before .before .args in
+    let long = c .before .before .before .before .before .before .before .before .before .before .pre .1 in
+    let k : v .k < 256 = omega arith in
+    let p : v .p < 256 = omega arith in
+    omega (arith, place-bound k p k)
+
+returns-4 : tie.Need-returns-4
+returns-4 c =
+    let third = c .before in
+    let second = third .before .before .before in
+    let first = second .before .before .before in
+    let v = first .before .before .before .before .args in
+    let tasks = tasks-clean (v .costs .now) (v .k) (v .p) (first .before .before .task-records .ensures) (first .if1 .left) in
+    let executions = executions-clean (v .costs .now) (v .k) (v .p) tasks (second .before .before .rows .ensures) (second .if2 .left) in
+    let internals = internals-clean (v .costs .now) (v .k) (v .p) executions (third .before .before .rows2 .ensures) (third .if3 .left) in
+    c .squares .ensures ∙ sym internals
 
 pub first-fault-spec : {M : Type 1} → statement M
 first-fault-spec =
     tie.close
     (tie.spec
-    Inv-loop
-    μ-loop
-    count-requires
-    sub-last
-    loop-holds
-    due-requires
-    fault-requires
-    add-place
+    task-records-requires
     returns
-    add-n
-    loop-less
-    loop-again
-    returns-2)
+    sub-pairs
+    rows-requires
+    returns-2
+    mul-executed
+    add-executed
+    rows-requires-2
+    returns-3
+    mul-squares
+    add-squares
+    squares-requires
+    returns-4)

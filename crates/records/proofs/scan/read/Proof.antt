@@ -14,9 +14,7 @@ unfolding readCosts
 returns c = simp (← (c .before .before .read-board .ensures), ne-eqb _ _ (c .if1 .taken))
 
 read-records-requires : tie.Need-read-records-requires
-read-records-requires c κs =
-    let h = opens-ranged _ _ (c .before .before .read-board .ensures) (c .if1 .left) in
-    (h .some-tasks, h .some-cores)
+read-records-requires c κs = opens-ranged _ _ (c .before .before .read-board .ensures) (c .if1 .left) .some-tasks
 
 returns-2 : tie.Need-returns-2
 unfolding readCosts
