@@ -13,7 +13,6 @@ pub use cost::passage;
 pub use cost::response_of;
 pub use cost::share;
 pub use cost::transfer;
-pub use reaching::reach;
 pub use reaching::read_reach;
 pub use rules::copies_allowed;
 pub use rules::fewest_cores;

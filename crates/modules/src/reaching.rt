@@ -8,7 +8,7 @@ use records::Filled;
 
 // The reach of a first task, by memory alone; 0 where the task by itself needs more cores than the board has, and for a task that is not
 // the chain's. A module needs at most the board's cores exactly if it ends within its reach, so the first that needs more ends the search.
-pub fn reach(costs: &[u8], board: Board, first: u8) -> u8
+fn reach(costs: &[u8], board: Board, first: u8) -> u8
     ensures { λ r. ⌜ r ≡ reachTo (chainOf (now (costs .entry)) board) first ⌝ }
 {
     if first == 0 {

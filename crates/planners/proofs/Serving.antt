@@ -1,6 +1,6 @@
--- The search on a board's costs: a zeroed work area holds a table, and what is found, or that nothing is, is what the definition that
--- tries every plan says; with it the service, refusal by refusal. Assumes nothing.
-use mathlib.Core.Path.{_≡_, refl, sym, ap, _∙_}
+-- The search on a board's costs: the first of the lightest plans of the fewest cores is the plan of the threshold, and what is found, or that
+-- nothing is, is what the definition that tries every plan says; with it the service, refusal by refusal. Assumes nothing.
+use mathlib.Core.Path.{_≡_, ap, _∙_}
 use mathlib.Core.Bool.{true, false}
 use mathlib.Core.List.{List, _++_}
 use mathlib.Core.Logic.{⊎-elim}
@@ -8,7 +8,7 @@ use mathlib.Core.Option.{none, some}
 use Prim.Native.Nat.{ℕ, zero, suc, _≤_, _<_}
 use native.Mathlib.Nat.{le-refl}
 use native.Mathlib.Omega.{arith}
-use lib.ListN.{length, getD, drop, replicate, length-replicate}
+use lib.ListN.{length, drop, replicate}
 use borrow.Author.Tests.{le-ltb, le-leb, lt-leb, eq-eqb, ne-eqb}
 use Rattle.records.specs.declared.Board.{Board}
 use Rattle.records.specs.declared.Reading.{Reading}
@@ -25,45 +25,36 @@ use Rattle.figures.proofs.Kept.{keeps-parts}
 use Rattle.figures.proofs.Decoding.{decode-encode}
 use Rattle.figures.proofs.Laws.{plan-reach}
 use Rattle.search.specs.Plan.{cap}
+use Rattle.search.specs.Walk.{walk}
 use Rattle.search.specs.Best.{light, plan, Feasible, Bottom}
 use Rattle.search.specs.Answer.{answer}
 use Rattle.search.proofs.Best.{plan-keeps}
+use Rattle.search.proofs.Sparing.{sparing-light, sparing-plan}
 use Rattle.search.proofs.Answer.{finds}
-use Rattle.slack.specs.Problem.{problem, topThreshold, SomeWithin, Sized}
+use Rattle.slack.specs.Problem.{problem, topThreshold, SomeWithin, Sized, enoughOn, sparingOn}
 use Rattle.slack.proofs.Splits.{feasible-found, found-feasible}
+use Rattle.slack.proofs.Enough.{enough-tells}
 use Rattle.threshold.specs.Threshold.{Decided}
-use Rattle.threshold.specs.Words.{Area}
-use Rattle.planners.specs.Search.{Holds, AllReached}
+use Rattle.threshold.specs.Words.{Area, Laid, AllFilled}
+use Rattle.planners.specs.Search.{noPlan, Tabled, weightOn, lightOn, planOn, AllReached}
 use Rattle.planners.specs.Best.{workWords, isBetter, bestPlan, foundAnswer, foundBytes, begins, bestAnswer, bestBytes, bestWork}
-use Rattle.planners.proofs.Cells.{cells-few}
 use Rattle.slack.proofs.Instance.{problem-priced, problem-small, keeps-rules}
 use Rattle.planners.proofs.Weighing.{problem-laws, better-decides, best-searched}
 use Rattle.planners.proofs.Optimal.{quick, best-answer}
-
--- a list of one number reads as that number, also past its end
-one-number : (n j a : ℕ) → getD (replicate n a) j a ≡ a
-one-number zero j a = refl
-one-number (suc n) zero a = refl
-one-number (suc n) (suc j) a = one-number n j a
-
--- an area of n zeros has that length, and is zeros by its own length
-pub zeroed-length : (n : ℕ) {v : List ℕ} → v ≡ replicate n 0 → length v ≡ n
-zeroed-length n e = ap length e ∙ length-replicate n 0
-
-pub zeroed : (n : ℕ) {v : List ℕ} → v ≡ replicate n 0 → v ≡ replicate (length v) 0
-zeroed n e = e ∙ ap (λ (k : ℕ). replicate k 0) (sym (zeroed-length n e))
 
 module _ (s : List ℕ) (b : Board) (costs : IsCosts s b) where
   pub sized : Sized b
   sized = let r = costs .ranged in record { some-tasks = r .some-tasks; most-tasks = r .most-tasks; some-cores = r .some-cores; most-cores = r .most-cores }
 
-  pub zero-holds : {w : List ℕ} → workWords ≤ length w → w ≡ replicate (length w) 0 → Holds b w
-  zero-holds {w} h e =
-      record { sized = sized; long = omega (arith, cells-few sized); low = λ j. omega (arith, ap (λ (v : List ℕ). getD v j 0) e, one-number (length w) j 0) }
-
-  -- the slack table has room in it too
+  -- the tables have room in the work area
   pub area : (w : List ℕ) → workWords ≤ length w → Area b w
   area w h = record { sized = sized; long = omega arith }
+
+  -- where some plan is within n, the search for it has left its table there
+  pub tabled : (w : List ℕ) {w′ : List ℕ} {n : ℕ} → workWords ≤ length w
+      → Decided (chainOf s b) n × (length w′ ≡ length w) × Laid (chainOf s b) w′ × (n ≤ topThreshold → AllFilled (chainOf s b) n w′) → n ≤ topThreshold
+      → Tabled (chainOf s b) b n w′
+  tabled w {w′} h found low = record { area = area w′ (omega (arith, found .1)); low = low; laid = found .2; slacks = found .3 low }
 
   -- a threshold that no plan is within is not feasible, and one that some plan is within is
   unfeasible : (m : ℕ) → (SomeWithin (chainOf s b) m → ⊥) → cap (problem (chainOf s b)) ≤ light (problem (chainOf s b)) m
@@ -99,8 +90,24 @@ module _ (s : List ℕ) (b : Board) (costs : IsCosts s b) where
     unfolding foundBytes
     none-bytes w = rw none-found
 
+  -- at a feasible threshold the lightest plans are of the fewest cores
+  module _ (n : ℕ) (feasible : Feasible (problem (chainOf s b)) n) where
+    light-same : lightOn (chainOf s b) n ≡ light (problem (chainOf s b)) n
+    light-same =
+        let c = chainOf s b in sparing-light (problem c) n (enoughOn c n) (problem-laws c (quick s b costs)) (enough-tells c n) feasible
+
+    pub light-some : {v : ℕ} → v ≡ lightOn (chainOf s b) n → v < noPlan (b .cores)
+    unfolding cap
+    light-some e = omega (arith, light-same)
+
+    plan-same : planOn (chainOf s b) n ≡ plan (problem (chainOf s b)) n
+    plan-same =
+        let c = chainOf s b in
+        ap (λ (v : ℕ). walk (problem c) (sparingOn c n) (weightOn c n) (c .tasks) 0 0 (λ q. suc v)) light-same
+        ∙ sparing-plan (problem c) n (enoughOn c n) (problem-laws c (quick s b costs)) (enough-tells c n) feasible
+
   -- the plan of the least feasible threshold
-  module _ (n : ℕ) (feasible : Feasible (problem (chainOf s b)) n) (bottom : Bottom (problem (chainOf s b)) n) {path : List ℕ} (laid : path ≡ encodePlan (plan (problem (chainOf s b)) n)) where
+  module _ (n : ℕ) (feasible : Feasible (problem (chainOf s b)) n) (bottom : Bottom (problem (chainOf s b)) n) {path : List ℕ} (laid : path ≡ encodePlan (planOn (chainOf s b) n)) where
     plan-found : bestPlan (chainOf s b) ≡ some (plan (problem (chainOf s b)) n)
     plan-found =
         best-searched (chainOf s b) (costs .ranged .some-tasks)
@@ -114,7 +121,7 @@ module _ (s : List ℕ) (b : Board) (costs : IsCosts s b) where
         let c = chainOf s b in
         let ms = plan (problem c) n in
         let k = keeps-parts c ms plan-kept in
-        ap (λ (w : List ℕ). modulesOf w (b .tasks)) laid ∙ decode-encode (b .tasks) ms (costs .ranged .some-tasks) (costs .ranged .most-tasks) (k .0)
+        ap (λ (w : List ℕ). modulesOf w (b .tasks)) (laid ∙ ap encodePlan (plan-same n feasible)) ∙ decode-encode (b .tasks) ms (costs .ranged .some-tasks) (costs .ranged .most-tasks) (k .0)
 
     -- none of its modules goes beyond its reach (M-102)
     pub plan-reached : AllReached (chainOf s b) (modulesOf path (b .tasks))
@@ -126,7 +133,7 @@ module _ (s : List ℕ) (b : Board) (costs : IsCosts s b) where
 
     pub plan-bytes : (w : List ℕ) {v : List ℕ} → v ≡ path ++ drop planBytes w → v ≡ foundBytes (bestPlan (chainOf s b)) w
     unfolding foundBytes
-    plan-bytes w e = rw plan-found (e ∙ ap (λ (x : List ℕ). x ++ drop planBytes w) laid)
+    plan-bytes w e = rw plan-found (e ∙ ap (λ (x : List ℕ). x ++ drop planBytes w) (laid ∙ ap encodePlan (plan-same n feasible)))
 
 -- ---- the service
 

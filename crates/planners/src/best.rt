@@ -9,8 +9,8 @@ ghost use Rattle.figures.specs.Plan.{figuresOf};
 ghost use Rattle.planners.specs.Best.{workWords, bestPlan, foundAnswer, foundBytes, bestAnswer, bestBytes, bestWork};
 ghost use Rattle.planners.specs.Search.{AllReached};
 use crate::path::lay_path;
-use crate::reaches::each_reach;
-use crate::table::weight_within;
+use crate::rests::fewest_cores;
+use crate::sweep::weight_within;
 use figures::Answer;
 use figures::refuse;
 use guess::TOP;
@@ -41,10 +41,10 @@ fn search(costs: &[u8], board: Board, plan: &mut [u8], work: &mut [u32]) -> Answ
     if TOP < n {
         return refuse(9, 0);
     }
-    let reaches = each_reach(costs, board);
-    let weight = weight_within(costs, board, reaches, work, n);
+    let left = fewest_cores(work, board.cores);
+    let weight = weight_within(costs, board, work, n, left);
     let mut path = [0u8; PLAN_BYTES];
-    lay_path(costs, board, reaches, work, n, weight, &mut path);
+    lay_path(costs, board, work, n, left, weight, &mut path);
     put_plan(path, plan);
     figures_of(costs, board, path)
 }

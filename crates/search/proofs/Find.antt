@@ -7,9 +7,8 @@ use mathlib.Core.Path.{_≡_}
 use mathlib.Core.Bool.{Bool, not}
 use mathlib.Core.Logic.{inl, inr}
 use lib.Dec.{T, ltb→lt, lt→ltb, T-not}
-use Rattle.records.proofs.Cases.{lt-or-le}
 use Rattle.search.specs.Find.{find, some}
-use Rattle.search.proofs.Tests.{passed, failed, test, bool-eq}
+use Rattle.search.proofs.Tests.{passed, failed, test}
 use Rattle.search.proofs.Least.{pick-yes, pick-no}
 
 -- ---- the first that passes
@@ -87,18 +86,3 @@ some-e n f t = find-yes n 0 f (omega (arith, ltb→lt (find n 0 f) n t))
 
 pub some-lt : (n : ℕ) (f : ℕ → Bool) → T (some n f) → find n 0 f < n
 some-lt n f t = ltb→lt (find n 0 f) n t
-
--- a loop that looks for one that passes may stop where none after it does
-pub some-stop : (n m : ℕ) (f : ℕ → Bool) → n ≤ m → ((i : ℕ) → n ≤ i → i < m → T (f i) → ⊥) → some m f ≡ some n f
-some-stop n m f h g = bool-eq (some m f) (some n f)
-    (λ t. elim (lt-or-le (find m 0 f) n) [
-      | inl l ↦ some-i n f (find m 0 f) l (some-e m f t)
-      | inr l ↦ absurd (g (find m 0 f) l (some-lt m f t) (some-e m f t))
-    ])
-    (λ t. some-i m f (find n 0 f) (omega (arith, some-lt n f t)) (some-e n f t))
-
--- it depends only on the tests in the range
-pub some-ext : (n : ℕ) (f g : ℕ → Bool) → ((i : ℕ) → i < n → f i ≡ g i) → some n f ≡ some n g
-some-ext n f g h = bool-eq (some n f) (some n g)
-    (λ t. some-i n g (find n 0 f) (some-lt n f t) (rw (h (find n 0 f) (some-lt n f t)) at (some-e n f t)))
-    (λ t. some-i n f (find n 0 g) (some-lt n g t) (rw (h (find n 0 g) (some-lt n g t)) (some-e n g t)))

@@ -87,11 +87,6 @@ least-le cap (suc n) f i h = elim (eq-or-lt-of-le (le-of-suc-le-suc h)) [
   | inr l ↦ omega (arith, least-le cap n f i l, lesser-le (least cap n f) (f n) .0)
 ]
 
--- a loop's start, and its step
-pub least-start : (cap : ℕ) (f : ℕ → ℕ) → cap ≡ least cap 0 f
-unfolding least
-least-start cap f = refl
-
 pub least-more : (cap i : ℕ) (f : ℕ → ℕ) (m r : ℕ) → m ≡ least cap i f → r ≡ lesser m (f i) → r ≡ least cap (i + 1) f
 unfolding least
 least-more cap i f m r e d = rw add-one (d ∙ rw e)

@@ -4,10 +4,8 @@ pub mod Bottleneck
 pub mod Cheapest
 pub mod Copies
 pub mod Every
-pub mod Fill
 pub mod Find
 pub mod First
-pub mod Flat
 pub mod Fraction
 pub mod Gauge
 pub mod Least
@@ -15,6 +13,7 @@ pub mod Loops
 pub mod Order
 pub mod Outcome
 pub mod Plan
+pub mod Sparing
 pub mod Steps
 pub mod Tests
 pub mod Tiers

@@ -1,5 +1,5 @@
--- The walk as a program's loop: its start, the module that it takes next, and its end, which is the plan. One step of the walk's
--- definition at a time.
+-- The walk as a program's loop, among modules that keep any rule: its start, the module that it takes next, and its end, which is the
+-- plan. One step of the walk's definition at a time.
 use Prim.Native.Nat.{ℕ, zero, suc, _-_, _≤_, _<_}
 use native.Mathlib.Omega.{arith}
 use native.Mathlib.Nat.{le-trans}
@@ -9,17 +9,15 @@ use mathlib.Core.List.{List, [], _∷_, _++_, append-nil, append-assoc}
 use lib.Dec.{T, eqb, eqb-refl}
 use Rattle.modules.specs.declared.Module.{Module}
 use Rattle.search.specs.Least.{pick}
-use Rattle.search.specs.Plan.{Rule, Problem, moduleAfter, of, Priced}
-use Rattle.search.specs.Weight.{Table}
+use Rattle.search.specs.Plan.{Rule, Problem, moduleAfter, of, cap, Priced}
+use Rattle.search.specs.Weight.{Table, table}
 use Rattle.search.specs.Walk.{Room, choice, chosen, roomAfter, walk, Fine}
-use Rattle.search.specs.Best.{fitsAt, tableAt, roomAt, plan, Feasible}
 use Rattle.search.specs.Loops.{Walking}
 use Rattle.search.proofs.Tests.{cond-yes, cond-no, ne→neqb}
-use Rattle.search.proofs.Plan.{fair-at}
+use Rattle.search.proofs.Plan.{Fair, fair-at}
 use Rattle.search.proofs.Weight.{head-bounds, table-le, attained}
 use Rattle.search.proofs.First.{first-nested}
 use Rattle.search.proofs.Walk.{fine-tail, room-cap, is-choice}
-use Rattle.search.proofs.Best.{fits-fair, plan-is}
 
 -- ---- one step of the walk, and its end
 
@@ -52,77 +50,75 @@ chosen-found X fits rest s t room l r p hl hr hp u no-l no-r no-p =
     first-nested (suc (X .tasks)) (suc (X .board)) (choice X fits rest s t room) l r p (omega arith) (omega arith) (omega arith) u t
     (λ l′ r′ p′ h a b. no-l l′ r′ p′ h (omega arith) (omega arith)) (λ r′ p′ h b. no-r r′ p′ h (omega arith)) no-p
 
--- ---- the loop at a feasible threshold n
+-- ---- the loop among modules that fit, to the plan whole
 
-module _ (X : Problem) (A : Priced X) (n : ℕ) where
-  pub walking-start : Feasible X n → Walking X n [] (X .tasks) 0 0 (roomAt X n)
-  unfolding plan
-  walking-start feasible = record {
+module _ (X : Problem) (A : Priced X) (fits : Rule) (F : Fair (X .tasks) fits) (whole : List Module) where
+  pub walking-start : (room : Room) → ((q : ℕ) → room q ≤ cap X) → walk X fits (table X fits) (X .tasks) 0 0 room ≡ whole
+      → Fine X fits 0 0 room whole → Walking X fits whole [] (X .tasks) 0 0 room
+  walking-start room h e f = record {
     enough = omega arith;
     inside = omega arith;
-    capped = λ q. feasible;
-    so-far = refl;
-    fine = plan-is X A n feasible .fine;
+    capped = h;
+    so-far = e;
+    fine = subst (Fine X fits 0 0 room) (sym e) f;
   }
 
-  pub walking-end : (done : List Module) (m s t : ℕ) (room : Room) → Walking X n done m s t room → X .tasks ≤ t → done ≡ plan X n
+  pub walking-end : (done : List Module) (m s t : ℕ) (room : Room) → Walking X fits whole done m s t room → X .tasks ≤ t → done ≡ whole
   walking-end done m s t room w h =
-      sym (append-nil done) ∙ rw (← (walk-end X (fitsAt X n) (tableAt X n) m s t room (omega (arith, w .inside)))) (w .so-far)
+      sym (append-nil done) ∙ rw (← (walk-end X fits (table X fits) m s t room (omega (arith, w .inside)))) (w .so-far)
 
   module _ (done : List Module) (s t : ℕ) (room : Room) where
     -- the next module
     abbrev y : Module
-    y = chosen X (fitsAt X n) (tableAt X n) s t room
+    y = chosen X fits (table X fits) s t room
 
-    module _ (m : ℕ) (w : Walking X n done (suc m) s t room) (left : t < X .tasks) where
+    module _ (m : ℕ) (w : Walking X fits whole done (suc m) s t room) (left : t < X .tasks) where
       -- the modules after it
       abbrev ys : List Module
-      ys = walk X (fitsAt X n) (tableAt X n) m (y .cores) (y .last) (roomAfter X (fitsAt X n) s t room y)
+      ys = walk X fits (table X fits) m (y .cores) (y .last) (roomAfter X fits s t room y)
 
-      fine-here : Fine X (fitsAt X n) s t room (y ∷ ys)
-      fine-here = rw (walk-more X (fitsAt X n) (tableAt X n) m s t room left) at (w .fine)
+      fine-here : Fine X fits s t room (y ∷ ys)
+      fine-here = rw (walk-more X fits (table X fits) m s t room left) at (w .fine)
 
       bounds-here : (t < y .last) × (y .last ≤ X .tasks) × (y .copies ≤ X .board) × (y .cores ≤ X .board)
       bounds-here =
-          let F = fits-fair X n in
           let h = le-trans (fine-here .light) (w .capped (y .cores)) in
-          let b = head-bounds X (fitsAt X n) F A s t y ys (fine-here .ok) h in
-          (fair-at (X .tasks) (fitsAt X n) F s t y ys (fine-here .ok) .0, b .0, b .1, b .2)
+          let b = head-bounds X fits F A s t y ys (fine-here .ok) h in
+          (fair-at (X .tasks) fits F s t y ys (fine-here .ok) .0, b .0, b .1, b .2)
 
-      passes-here : T (choice X (fitsAt X n) (tableAt X n) s t room (y .last) (y .copies) (y .cores))
+      passes-here : T (choice X fits (table X fits) s t room (y .last) (y .copies) (y .cores))
       passes-here =
-          is-choice X (fitsAt X n) (tableAt X n) (fits-fair X n) A (table-le X (fitsAt X n) (fits-fair X n) A)
-          (attained X (fitsAt X n) (X .tasks)) s t room y ys (w .capped) fine-here
+          is-choice X fits (table X fits) F A (table-le X fits F A) (attained X fits (X .tasks)) s t room y ys (w .capped) fine-here
 
-      walking-here : Walking X n (done ++ (y ∷ [])) m (y .cores) (y .last) (roomAfter X (fitsAt X n) s t room y)
+      walking-here : Walking X fits whole (done ++ (y ∷ [])) m (y .cores) (y .last) (roomAfter X fits s t room y)
       walking-here = record {
         enough = omega (arith, bounds-here, w .enough);
         inside = bounds-here .1;
-        capped = room-cap X (fitsAt X n) s t room y (w .capped);
-        so-far = append-assoc done (y ∷ []) ys ∙ rw (← (walk-more X (fitsAt X n) (tableAt X n) m s t room left)) (w .so-far);
-        fine = fine-tail X (fitsAt X n) s t room y ys fine-here;
+        capped = room-cap X fits s t room y (w .capped);
+        so-far = append-assoc done (y ∷ []) ys ∙ rw (← (walk-more X fits (table X fits) m s t room left)) (w .so-far);
+        fine = fine-tail X fits s t room y ys fine-here;
       }
 
     -- while tasks are left, it is within the loops' bounds
-    pub chosen-bounds : (m : ℕ) → Walking X n done m s t room → t < X .tasks
+    pub chosen-bounds : (m : ℕ) → Walking X fits whole done m s t room → t < X .tasks
         → (t < y .last) × (y .last ≤ X .tasks) × (y .copies ≤ X .board) × (y .cores ≤ X .board)
     chosen-bounds zero w h = absurd (omega (arith, w .enough))
     chosen-bounds (suc m) w h = bounds-here m w h
 
     -- it passes the loops' test
-    pub chosen-passes : (m : ℕ) → Walking X n done m s t room → t < X .tasks
-        → T (choice X (fitsAt X n) (tableAt X n) s t room (y .last) (y .copies) (y .cores))
+    pub chosen-passes : (m : ℕ) → Walking X fits whole done m s t room → t < X .tasks
+        → T (choice X fits (table X fits) s t room (y .last) (y .copies) (y .cores))
     chosen-passes zero w h = absurd (omega (arith, w .enough))
     chosen-passes (suc m) w h = passes-here m w h
 
     -- and the loop goes on after it
-    pub walking-next : (m : ℕ) → Walking X n done m s t room → t < X .tasks
-        → Walking X n (done ++ (y ∷ [])) (m - 1) (y .cores) (y .last) (roomAfter X (fitsAt X n) s t room y)
+    pub walking-next : (m : ℕ) → Walking X fits whole done m s t room → t < X .tasks
+        → Walking X fits whole (done ++ (y ∷ [])) (m - 1) (y .cores) (y .last) (roomAfter X fits s t room y)
     walking-next zero w h = absurd (omega (arith, w .enough))
     walking-next (suc m) w h = let e : suc m - 1 ≡ m = omega arith in rw e (walking-here m w h)
 
     -- the same by the last task, copies and cores that the loops have found
-    pub walking-found : (m l r p : ℕ) → y ≡ moduleAfter t l r p → Walking X n done m s t room → t < X .tasks
-        → Walking X n (done ++ (moduleAfter t l r p ∷ [])) (m - 1) p l (roomAfter X (fitsAt X n) s t room (moduleAfter t l r p))
+    pub walking-found : (m l r p : ℕ) → y ≡ moduleAfter t l r p → Walking X fits whole done m s t room → t < X .tasks
+        → Walking X fits whole (done ++ (moduleAfter t l r p ∷ [])) (m - 1) p l (roomAfter X fits s t room (moduleAfter t l r p))
     walking-found m l r p e w h =
-        subst (λ x. Walking X n (done ++ (x ∷ [])) (m - 1) (x .cores) (x .last) (roomAfter X (fitsAt X n) s t room x)) e (walking-next m w h)
+        subst (λ x. Walking X fits whole (done ++ (x ∷ [])) (m - 1) (x .cores) (x .last) (roomAfter X fits s t room x)) e (walking-next m w h)

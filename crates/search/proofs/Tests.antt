@@ -27,11 +27,6 @@ pub and-i : (a b : Bool) → T a → T b → T (a && b)
 and-i true b x y = y
 and-i false b x y = x
 
--- it depends on its second test only where the first passes
-pub and-ext : (a b c : Bool) → (T a → b ≡ c) → (a && b) ≡ (a && c)
-and-ext true b c h = h tt
-and-ext false b c h = refl
-
 -- a disjunction gives a part, and a part gives it
 pub or-e : (a b : Bool) → T (a || b) → T a ⊎ T b
 or-e true b t = inl tt

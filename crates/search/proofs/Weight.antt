@@ -7,7 +7,7 @@ use mathlib.Core.Path.{_≡_, refl, sym, _∙_}
 use mathlib.Core.Bool.{_&&_}
 use mathlib.Core.Logic.{inl, inr}
 use mathlib.Core.List.{List, [], _∷_}
-use lib.Dec.{T, eqb, eqb→eq}
+use lib.Dec.{T, eqb, eqb→eq, not-T}
 use Rattle.records.proofs.Cases.{lt-or-le}
 use Rattle.modules.specs.declared.Module.{Module}
 use Rattle.figures.specs.Model.{headCores, coresOf}
@@ -15,7 +15,7 @@ use Rattle.search.specs.Least.{lesser}
 use Rattle.search.specs.Plan.{Rule, Problem, moduleAfter, valid, weight, cap, Priced}
 use Rattle.search.specs.Weight.{Table, ends, oneWay, overCopies, overNext, overLast, leastWeight, table}
 use Rattle.search.proofs.Tests.{and-l, and-r, and-i}
-use Rattle.search.proofs.Least.{pick-yes, pick-low, pick-le, lesser-le, lesser-is, least-le, least-at}
+use Rattle.search.proofs.Least.{pick-yes, pick-no, pick-low, pick-le, lesser-le, lesser-is, lesser-no-more, least-cap, least-le, least-at}
 use Rattle.search.proofs.Plan.{valid-head, valid-tail, valid-cons, Fair, fair-at, head-le, copies-le, on-board}
 
 -- ---- no rest
@@ -157,7 +157,7 @@ module _ (X : Problem) (fits : Rule) where
     ]
 
     -- the recurrence of the table
-    pub table-is : (s t q : ℕ) → table X fits s t q ≡ lesser (ends X t q) (overLast X fits (table X fits) s t q)
+    table-is : (s t q : ℕ) → table X fits s t q ≡ lesser (ends X t q) (overLast X fits (table X fits) s t q)
     unfolding leastWeight
     table-is s t q =
         let k = X .tasks in
@@ -167,3 +167,13 @@ module _ (X : Problem) (fits : Rule) where
     pub table-le : (s t : ℕ) (ms : List Module) → T (valid (X .tasks) fits s t ms) → weight X s t ms < cap X
         → table X fits s t (headCores ms) ≤ weight X s t ms
     table-le s t ms v h = leastWeight-le (X .tasks) s t ms v h (omega arith)
+
+    -- where a module is to come, the table is the recurrence alone
+    pub table-step : (s t q : ℕ) → 1 ≤ q → table X fits s t q ≡ overLast X fits (table X fits) s t q
+    unfolding ends overLast
+    table-step s t q h =
+        let b = eqb t (X .tasks) && eqb q 0 in
+        let g = not-T b (λ u. omega (arith, eqb→eq q 0 (and-r (eqb t (X .tasks)) (eqb q 0) u))) in
+        let n : ends X t q ≡ cap X = pick-no b 0 (cap X) g in
+        table-is s t q
+        ∙ rw n (lesser-no-more (cap X) (overLast X fits (table X fits) s t q) (least-cap (cap X) (suc (X .tasks)) _))

@@ -4,7 +4,6 @@ pub mod Bottleneck
 pub mod Copies
 pub mod Every
 pub mod Find
-pub mod Flat
 pub mod Fraction
 pub mod Gauge
 pub mod Least
@@ -12,6 +11,7 @@ pub mod Loops
 pub mod Order
 pub mod Outcome
 pub mod Plan
+pub mod Sparing
 pub mod Tiers
 pub mod Walk
 pub mod Weight

@@ -1,6 +1,7 @@
 pub mod After
 pub mod Chain
 pub mod Cheapest
+pub mod Enough
 pub mod Fill
 pub mod Greatest
 pub mod Growing

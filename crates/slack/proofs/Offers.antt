@@ -1,15 +1,13 @@
 -- What copies leave, as a loop over the copies keeps it: its start, one turn and its end. By the laws of the greatest over a range.
 use Prim.Native.Nat.{ℕ, suc, _+_, _*_, _-_, _≤_, _<_}
 use native.Mathlib.Omega.{arith}
-use native.Mathlib.Nat.{le-refl, mul-le-mul}
 use mathlib.Core.Path.{_≡_, refl, sym, _∙_, ap}
 use lib.Dec.{leb, le→leb}
 use lib.Arith.{lt→nleb}
-use Rattle.search.proofs.Tests.{passed, failed, test}
 use Rattle.search.proofs.Least.{pick-yes, pick-no}
 use Rattle.slack.specs.Greatest.{larger, greatest}
-use Rattle.slack.specs.Fill.{added, leftBy, several, moreBy, bestBy}
-use Rattle.slack.proofs.Greatest.{larger-zero, larger-assoc, greatest-more, greatest-none, greatest-trim}
+use Rattle.slack.specs.Fill.{added, leftBy, several}
+use Rattle.slack.proofs.Greatest.{larger-zero, larger-assoc, greatest-more, greatest-none}
 
 added-more : (D r : ℕ) → 2 ≤ r → added D r ≡ D
 added-more D r h = pick-no (leb r 1) 0 D (lt→nleb r 1 h)
@@ -49,20 +47,3 @@ module _ (time : ℕ → ℕ) (D : ℕ) (C : (l q c : ℕ) → ℕ) (l q b : ℕ
       let x : f r ≡ v = pick-yes (leb 2 r) (leftBy time D C l q b r) 0 (le→leb 2 r p) ∙ sym w in
       let y : larger (greatest r f) v ≡ greatest (r + 1) f = greatest-more r f (greatest r f) (larger (greatest r f) v) refl (rw x) in
       en ∙ ap (λ z. larger z v) em ∙ larger-assoc a (greatest r f) v ∙ ap (λ z. larger a z) y
-
-  -- where r copies have more cores than there are
-  pub best-end : (r u m : ℕ) → 1 ≤ q → u ≡ r * q → b < u → m ≡ larger (leftBy time D C l q b 1) (greatest r (several time D C l q b))
-      → m ≡ bestBy time D C l q b
-  unfolding bestBy moreBy several
-  best-end r u m p eu h e =
-      let f = several time D C l q b in
-      let z : greatest r f ≡ greatest (suc b) f = greatest-trim r (suc b) f
-      (λ i g. several-none i (omega (arith, mul-le-mul g (le-refl q))))
-      (λ i g. several-none i (omega (arith, mul-le-mul (le-refl i) p))) in
-      e ∙ rw z
-    where
-      several-none : (i : ℕ) → b < i * q → several time D C l q b i ≡ 0
-      several-none i g = elim (test (leb 2 i)) [
-        | passed t ↦ pick-yes (leb 2 i) (leftBy time D C l q b i) 0 t ∙ left-none i g
-        | failed t ↦ pick-no (leb 2 i) (leftBy time D C l q b i) 0 t
-      ]

@@ -5,9 +5,10 @@ use Rattle.records.specs.declared.Board.{Board}
 use Rattle.modules.specs.Model.{Chain, response, transfer, handed, body, passage}
 use Rattle.modules.specs.Rules.{moduleRules, copiesAllowed}
 use Rattle.modules.specs.Reach.{reach}
-use Rattle.search.specs.Plan.{Measure, Problem}
+use Rattle.search.specs.Plan.{Measure, Rule, Problem}
+use Rattle.search.specs.Sparing.{Enough, fewest, need, sparing}
 use Rattle.slack.specs.Split.{Split}
-use Rattle.slack.specs.Slack.{Slack, slack}
+use Rattle.slack.specs.Slack.{Slack, goesOn, slack}
 use Rattle.slack.specs.Splits.{Found}
 use Rattle.slack.specs.Fill.{Given, splitOf, cheapest, leftBy, bestBy, endsAt, cellAfter}
 
@@ -115,3 +116,20 @@ module _ (c : Chain) (n : ℕ) where
 
   abbrev pub afterOn : (l t q b : ℕ) → ℕ
   afterOn = cellAfter (fitsOn c) (replicableOn c) (bodyOn c) oneOn anyOn (c .tasks)
+
+  -- ---- plans of the fewest cores within n
+
+  -- whether some rest has at most b cores: nothing is to come, or it can still receive what it is sent
+  abbrev pub enoughOn : Enough
+  enoughOn s t q b = goesOn (splitOn c n) (slackOn c n) t s q b
+
+  -- the fewest cores of a whole plan, and of a rest
+  abbrev pub fewestOn : ℕ
+  fewestOn = fewest (c .board) enoughOn
+
+  abbrev pub needOn : (s t q : ℕ) → ℕ
+  needOn = need (c .board) enoughOn
+
+  -- the modules of plans of the fewest cores
+  abbrev pub sparingOn : Rule
+  sparingOn = sparing (problem c) n enoughOn

@@ -11,11 +11,12 @@ use lib.ListN.{length, getD}
 use Rattle.records.proofs.Cases.{lt-or-le}
 use Rattle.modules.specs.Model.{Chain, handed}
 use Rattle.slack.specs.Fill.{leftBy, several, moreBy, bestBy, endsAt}
-use Rattle.slack.specs.Problem.{topThreshold, fitsOn, replicableOn, bodyOn, cheapestOn, oneOn, anyOn, afterOn}
+use Rattle.slack.specs.Problem.{none, topThreshold, fitsOn, replicableOn, bodyOn, cheapestOn, oneOn, anyOn, afterOn}
 use Rattle.slack.proofs.Fill.{left-ext, best-ext}
 use Rattle.slack.proofs.Chain.{after-start, after-next, after-slack}
 use Rattle.sketch.specs.Slacks.{slackAt}
-use Rattle.threshold.specs.Words.{reachAt, timeAt, rowOf, Laid, Cheapest, Offered, RowFilled, AllFilled, FilledAfter, Pushed, Cleared}
+use Rattle.threshold.specs.Words.{reachAt, timeAt, rowOf, Laid, Cheapest, LeastRest, Offered, RowFilled, AllFilled, FilledAfter, Pushed, NoSlacks}
+use Rattle.threshold.proofs.Offering.{one-bare, any-bare, pushed-nothing}
 
 -- ---- what copies leave beside a row of cheapest transfers is what they leave beside the cheapest transfers
 
@@ -46,6 +47,14 @@ pushed-right c n l q extra row left w w′ e right offered pushed = record {
   kept = pushed .kept;
 }
 
+-- nothing is pushed where nothing can be sent to the rests that fit beside one copy
+pub pushed-bare : (c : Chain) (n l q : ℕ) (w : List ℕ) → n ≤ topThreshold → 1 ≤ q → c .board ≤ 32 → ((b : ℕ) → b + q ≤ c .board → cheapestOn c n l q b ≡ none)
+    → Pushed c w w (oneOn c n l q) (anyOn c n l q) 0 l q
+pushed-bare c n l q w high some few bare = pushed-nothing c w (oneOn c n l q) (anyOn c n l q) l q (λ b u v. (
+  one-bare n (handed c 2) (cheapestOn c n) l q b (c .board + 1 - q) high some (omega arith) (λ x h. bare x (omega arith)) (omega arith),
+  any-bare n (handed c 2) (cheapestOn c n) l q b (c .board + 1 - q) high some (omega arith) (λ x h. bare x (omega arith)) (omega arith),
+))
+
 -- ---- the words of the tasks
 
 -- they stand where no slack does
@@ -66,10 +75,11 @@ slack-place t p b t′ q b′ h u g v e =
 
 -- ---- one task ended, number of cores by number of cores
 
--- modules of fewer than q cores that end with l are pushed, and no others
+-- modules of fewer than q cores that end with l are pushed, and no others; the slacks of rests after l are as they were
 pub record Ended (c : Chain) (n : ℕ) (w₀ w : List ℕ) (l q : ℕ) : Type 0 where
   pub long : length w ≡ length w₀
   pub laid : Laid c w
+  pub later : (j : ℕ) → l * 1089 ≤ j → getD w j 0 ≡ getD w₀ j 0
   pub done : (t p b : ℕ) → t < c .tasks → 1 ≤ p → p < q → p ≤ b → b ≤ c .board → getD w (slackAt t p b) 0 ≡ afterOn c n (l - 1) t p b
   pub left : (t p b : ℕ) → t < c .tasks → q ≤ p → p ≤ b → b ≤ c .board → getD w (slackAt t p b) 0 ≡ afterOn c n l t p b
 
@@ -78,6 +88,7 @@ module _ (c : Chain) (n : ℕ) (low : n ≤ topThreshold) (few : c .tasks ≤ 12
   ended-none laid filled = record {
     long = refl;
     laid = laid;
+    later = λ j h. refl;
     done = λ t p b h g u. absurd (omega arith);
     left = λ t p b h u v x. filled t p b h u v x;
   }
@@ -94,10 +105,15 @@ module _ (c : Chain) (n : ℕ) (low : n ≤ topThreshold) (few : c .tasks ≤ 12
         (λ d. ended .left l p b h d v x ∙ after-slack c n low l l p b (le-refl l) u (omega arith))
         (lt-or-le p q)
 
+    -- and no rest of few cores has got a slack
+    pub ended-rest : (k cores least : ℕ) → LeastRest k cores w₀ l least → LeastRest k cores w l least
+    ended-rest k cores least rest = record { high = rest .high; last = rest .last; bare = λ p b u v x. ended .later _ (omega arith) ∙ rest .bare p b u v x }
+
     pub ended-more : (w′ : List ℕ) → q ≤ c .board → Pushed c w w′ (oneOn c n l q) (anyOn c n l q) 0 l q → Ended c n w₀ w′ l (q + 1)
     ended-more w′ inner pushed = record {
       long = pushed .long ∙ ended .long;
       laid = laid-words c w w′ (λ j h. pushed .kept j (λ t b f g u v e. omega arith)) (ended .laid);
+      later = λ j h. pushed .kept j (λ t b f g u v e. omega arith) ∙ ended .later j h;
       done = λ t p b h g u v x. ⊎-elim
           (λ d. other t p b h (λ e. omega arith) v x ∙ ended .done t p b h g d v x)
           (λ d. let e : p ≡ q = omega arith in rw e (own t b h (omega arith) x))
@@ -124,8 +140,8 @@ module _ (c : Chain) (n : ℕ) (low : n ≤ topThreshold) (few : c .tasks ≤ 12
 
 -- ---- the whole table
 
-pub cleared-after : (c : Chain) (n : ℕ) → n ≤ topThreshold → c .tasks ≤ 12 → c .board ≤ 32 → (w w′ : List ℕ) → Cleared w w′ (c .tasks * 1089) → FilledAfter c n w′ (c .tasks)
-cleared-after c n low few board w w′ cleared t q b h u v x = cleared .made (slackAt t q b) (omega arith) ∙ sym (after-start c n low t q b)
+pub cleared-after : (c : Chain) (n : ℕ) → n ≤ topThreshold → (w w′ : List ℕ) → NoSlacks w w′ (c .tasks) (c .board) → FilledAfter c n w′ (c .tasks)
+cleared-after c n low w w′ cleared t q b h u v x = cleared .made t q b h v x ∙ sym (after-start c n low t q b)
 
 pub filled-all : (c : Chain) (n : ℕ) → n ≤ topThreshold → c .board ≤ 32 → (w : List ℕ) → FilledAfter c n w 0 → AllFilled c n w
 filled-all c n low board w filled t h q b u v x = filled t q b h u v x ∙ after-slack c n low 0 t q b (omega arith) u (omega arith)

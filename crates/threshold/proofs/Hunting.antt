@@ -6,7 +6,7 @@ use mathlib.Core.List.{List}
 use mathlib.Core.Logic.{inl, inr, ⊎-elim}
 use Prim.Native.Nat.{ℕ, zero, suc, _+_, _-_, _*_, _/_, _≤_, _<_}
 use native.Mathlib.Omega.{arith}
-use lib.ListN.{length, replicate}
+use lib.ListN.{length}
 use lib.Dec.{leb}
 use borrow.Author.Tests.{le-leb, lt-leb}
 use Rattle.records.specs.declared.Board.{Board}
@@ -17,7 +17,7 @@ use Rattle.slack.proofs.Chain.{found-slack}
 use Rattle.slack.proofs.Splits.{found-more}
 use Rattle.guess.specs.declared.Hunt.{Hunt}
 use Rattle.sketch.specs.Slacks.{Slacked}
-use Rattle.threshold.specs.Words.{Area, AllFilled}
+use Rattle.threshold.specs.Words.{Area, Laid, AllFilled}
 use Rattle.threshold.specs.Threshold.{Decided, Searched, Bracket, power, Tried}
 
 -- each power of 2 is twice the one before
@@ -145,10 +145,7 @@ module _ (c : Chain) where
 pub searched-refused : (c : Chain) (b : Board) (w : List ℕ) {r : ℕ} → (Area b w → ⊥) → r ≡ topThreshold + 1 → Searched c b w w r
 searched-refused c b w out e = record { decided = λ a. absurd (out a); refused = λ x. (e, refl) }
 
--- words with room are answered, and are zero afterwards
-pub searched-decided : (c : Chain) (b : Board) (w : List ℕ) {w′ : List ℕ} {r : ℕ} (m : ℕ) → Area b w → Decided c r → m ≡ length w → w′ ≡ replicate m 0
-    → Searched c b w w′ r
-searched-decided c b w m room d e z = record {
-  decided = λ a. (d, z ∙ ap (λ (m : ℕ). replicate m 0) e);
-  refused = λ x. absurd (x room);
-}
+-- words with room are answered, and hold what is laid and the slack table of the answer
+pub searched-decided : (c : Chain) (b : Board) (w : List ℕ) {w′ : List ℕ} {r : ℕ} → Area b w → Decided c r → length w′ ≡ length w → Laid c w′
+    → (r ≤ topThreshold → AllFilled c r w′) → Searched c b w w′ r
+searched-decided c b w room d long laid filled = record { decided = λ a. (d, long, laid, filled); refused = λ x. absurd (x room) }

@@ -3,7 +3,7 @@
 use mathlib.Core.Path.{_≡_, refl, _∙_}
 use mathlib.Core.Bool.{Bool, true, false}
 use mathlib.Core.List.{List}
-use mathlib.Core.Logic.{⊎-elim}
+use mathlib.Core.Logic.{⊎-elim, inl, inr}
 use Prim.Native.Nat.{ℕ, _+_, _-_, _*_, _≤_, _<_}
 use native.Mathlib.Nat.{le-refl}
 use native.Mathlib.Omega.{arith}
@@ -17,7 +17,8 @@ use Rattle.modules.proofs.Laws.{shares-more, rules-drop}
 use Rattle.modules.proofs.Amounts.{copies-drop}
 use Rattle.modules.proofs.Sums.{gather-split}
 use Rattle.slack.proofs.Growing as growing
-use Rattle.threshold.specs.Words.{tableWords, executionAt, internalAt, reachAt, Longest, TaskLaid, LaidTo, LaidOnly, Fixed, Cleared}
+use Rattle.sketch.specs.Slacks.{slackAt}
+use Rattle.threshold.specs.Words.{tableWords, executionAt, internalAt, reachAt, Longest, TaskLaid, LaidTo, LaidOnly, Fixed, Cleared, NoSlacks}
 
 -- ---- the longest module of one copy
 
@@ -148,16 +149,33 @@ module _ (c : Chain) where
 -- ---- words that are cleared
 
 -- none yet
-pub cleared-none : (w : List ℕ) → Cleared w w 0
-cleared-none w = record { long = refl; made = λ j h. absurd (omega arith); kept = λ j h. refl }
+pub cleared-none : (w : List ℕ) (from : ℕ) → Cleared w w from from
+cleared-none w from = record { long = refl; made = λ j h l. absurd (omega arith); kept = λ j h. refl }
 
 -- one more
-pub cleared-more : (w w′ : List ℕ) (i : ℕ) → i < length w′ → Cleared w w′ i → Cleared w (set w′ i 0) (i + 1)
-cleared-more w w′ i h cleared = record {
+pub cleared-more : (w w′ : List ℕ) (from i : ℕ) → from ≤ i → i < length w′ → Cleared w w′ from i → Cleared w (set w′ i 0) from (i + 1)
+cleared-more w w′ from i low h cleared = record {
   long = length-set w′ i 0 ∙ cleared .long;
-  made = λ j a. ⊎-elim
-      (λ l. getD-set-other w′ i j 0 0 (λ e. omega arith) ∙ cleared .made j l)
+  made = λ j u a. ⊎-elim
+      (λ l. getD-set-other w′ i j 0 0 (λ e. omega arith) ∙ cleared .made j u l)
       (λ l. let d : j ≡ i = omega arith in rw d (getD-set-same w′ i 0 0 h))
       (lt-or-le j i);
-  kept = λ j a. getD-set-other w′ i j 0 0 (λ e. omega arith) ∙ cleared .kept j (omega arith);
+  kept = λ j x. ⊎-elim
+      (λ a. getD-set-other w′ i j 0 0 (λ e. omega arith) ∙ cleared .kept j (inl a))
+      (λ a. getD-set-other w′ i j 0 0 (λ e. omega arith) ∙ cleared .kept j (inr (omega arith)))
+      x;
+}
+
+-- the slacks after no task, and after one task more
+pub slacks-none : (w : List ℕ) (cores : ℕ) → NoSlacks w w 0 cores
+slacks-none w cores = record { long = refl; made = λ t q b h. absurd (omega arith); kept = λ j h. refl }
+
+pub slacks-more : (w w′ w″ : List ℕ) (t cores : ℕ) → t < 12 → cores ≤ 32 → NoSlacks w w′ t cores → Cleared w′ w″ (t * 1089) (t * 1089 + (cores + 1) * 33) → NoSlacks w w″ (t + 1) cores
+slacks-more w w′ w″ t cores few most before cleared = record {
+  long = cleared .long ∙ before .long;
+  made = λ i q b h u v. ⊎-elim
+      (λ d. cleared .kept (slackAt i q b) (inl (omega arith)) ∙ before .made i q b d u v)
+      (λ d. cleared .made (slackAt i q b) (omega arith) (omega arith))
+      (lt-or-le i t);
+  kept = λ j h. cleared .kept j (inr (omega arith)) ∙ before .kept j h;
 }

@@ -3,12 +3,12 @@ use Prim.Native.Nat.{ℕ, zero, suc, _+_, _*_, _≤_, _<_}
 use mathlib.Core.Path.{_≡_}
 use mathlib.Core.List.{List}
 use mathlib.Core.Logic.{_⊎_}
-use lib.ListN.{length, replicate}
+use lib.ListN.{length}
 use Rattle.records.specs.declared.Board.{Board}
 use Rattle.modules.specs.Model.{Chain}
 use Rattle.slack.specs.Problem.{topThreshold, SomeWithin}
 use Rattle.guess.specs.declared.Hunt.{Hunt}
-use Rattle.threshold.specs.Words.{Area}
+use Rattle.threshold.specs.Words.{Area, Laid, AllFilled}
 
 -- r is the least threshold up to the greatest that some plan is within; one more than the greatest where there is none
 pub record Decided (c : Chain) (r : ℕ) : Type 0 where
@@ -16,10 +16,10 @@ pub record Decided (c : Chain) (r : ℕ) : Type 0 where
   pub some-plan : r ≤ topThreshold → SomeWithin c r
   pub none-below : (m : ℕ) → m < r → SomeWithin c m → ⊥
 
--- what is answered to a board and words, and what the words are afterwards: all zero, or as lent where the board is out of range or the
--- words are too few
+-- what is answered to a board and words, and what the words are afterwards: what is laid and the slack table of the answer, where some plan
+-- is within it; or as lent where the board is out of range or the words are too few
 pub record Searched (c : Chain) (b : Board) (w w′ : List ℕ) (r : ℕ) : Type 0 where
-  pub decided : Area b w → Decided c r × (w′ ≡ replicate (length w) 0)
+  pub decided : Area b w → Decided c r × (length w′ ≡ length w) × Laid c w′ × (r ≤ topThreshold → AllFilled c r w′)
   pub refused : (Area b w → ⊥) → (r ≡ topThreshold + 1) × (w′ ≡ w)
 
 -- ---- the search

@@ -130,6 +130,34 @@ pub record FirstServed (w : List ℕ) (at from end e r : ℕ) : Type 0 where
   pub serves : r ≤ end → e < getD w (at + r) 0
   pub none-before : (c : ℕ) → from ≤ c → c < r → getD w (at + c) 0 ≤ e
 
+-- no rest of fewer than `least` cores after the task l has a slack
+abbrev pub NoRest : (w : List ℕ) (l least : ℕ) → Type 0
+NoRest w l least = (q b : ℕ) → 1 ≤ q → q ≤ b → b < least → getD w (slackAt l q b) 0 ≡ 0
+
+-- so many, as found on a board: at most one more than its cores, and 0 behind the last task k, where nothing needs to come
+pub record LeastRest (k cores : ℕ) (w : List ℕ) (l least : ℕ) : Type 0 where
+  pub high : least ≤ cores + 1
+  pub last : l ≡ k → least ≡ 0
+  pub bare : NoRest w l least
+
+-- nothing is sent to rests of fewer than `low` cores
+abbrev pub NoneBelow : (row : List ℕ) (low : ℕ) → Type 0
+NoneBelow row low = (c : ℕ) → c < low → getD row c 0 ≡ none
+
+-- r is the first entry of a row up to `end` that is a transfer, end + 1 where there is none
+pub record FirstSent (row : List ℕ) (end r : ℕ) : Type 0 where
+  pub high : r ≤ end + 1
+  pub sends : r ≤ end → getD row r 0 ≡ none → ⊥
+  pub none-before : NoneBelow row r
+
+-- with q cores and more, but fewer than `start`, neither one copy nor any leave something
+abbrev pub NoneLeft : (left : List ℕ) (q start : ℕ) → Type 0
+NoneLeft left q start = (b : ℕ) → q ≤ b → b < start → (getD left b 0 ≡ 0) × (getD left (33 + b) 0 ≡ 0)
+
+-- one copy leaves no more than any do
+abbrev pub OneNoMore : (left : List ℕ) (q cores : ℕ) → Type 0
+OneNoMore left q cores = (b : ℕ) → q ≤ b → b ≤ cores → getD left b 0 ≤ getD left (33 + b) 0
+
 -- the words from at + low to at + high are raised to those of a row, less `own`; all others are as they were
 pub record Raised (w w′ : List ℕ) (row : ℕ → ℕ) (at own low high : ℕ) : Type 0 where
   pub long : length w′ ≡ length w
@@ -152,8 +180,14 @@ PushedAll w w′ cores l q fixed left =
     (length w′ ≡ length w)
     × ((c : Chain) → c .board ≡ cores → l ≤ c .tasks → 1 ≤ q → Laid c w → Fixed c l fixed → Pushed c w w′ (λ b. getD left b 0) (λ b. getD left (33 + b) 0) 0 l q)
 
--- the first m words are 0, and all others as they were
-pub record Cleared (w w′ : List ℕ) (m : ℕ) : Type 0 where
+-- the words from `from` to before `to` are 0, and all others as they were
+pub record Cleared (w w′ : List ℕ) (from to : ℕ) : Type 0 where
   pub long : length w′ ≡ length w
-  pub made : (j : ℕ) → j < m → getD w′ j 0 ≡ 0
-  pub kept : (j : ℕ) → m ≤ j → getD w′ j 0 ≡ getD w j 0
+  pub made : (j : ℕ) → from ≤ j → j < to → getD w′ j 0 ≡ 0
+  pub kept : (j : ℕ) → (j < from) ⊎ (to ≤ j) → getD w′ j 0 ≡ getD w j 0
+
+-- no rest after the first k tasks has a slack with up to so many cores, and the words behind the slacks are as they were
+pub record NoSlacks (w w′ : List ℕ) (k cores : ℕ) : Type 0 where
+  pub long : length w′ ≡ length w
+  pub made : (t q b : ℕ) → t < k → q ≤ b → b ≤ cores → getD w′ (slackAt t q b) 0 ≡ 0
+  pub kept : (j : ℕ) → 13068 ≤ j → getD w′ j 0 ≡ getD w j 0

@@ -8,7 +8,7 @@ ghost use Rattle.search.specs.Least.{lesser as lesserOf};
 ghost use Rattle.slack.specs.Greatest.{larger as largerOf};
 ghost use Rattle.slack.specs.Fill.{bestBy};
 ghost use Rattle.slack.specs.Problem.{none, topThreshold};
-ghost use Rattle.threshold.specs.Words.{timeAt, rowOf, unsent, Area, FirstServed, Settled, CheapestBy, LeftByOne, Offered};
+ghost use Rattle.threshold.specs.Words.{timeAt, rowOf, unsent, Area, FirstServed, NoRest, LeastRest, FirstSent, NoneBelow, Settled, CheapestBy, LeftByOne, Offered};
 use crate::words::NONE;
 use guess::GRAIN;
 use records::Board;
@@ -31,7 +31,7 @@ pub(crate) fn larger(a: u32, b: u32) -> u32
 
 // The first number of cores from `from` to `end` at which a rest, whose slacks stand after `at`, can still receive in the time e; one more
 // than `end` where none can.
-fn first_served(work: &[u32], at: usize, from: usize, end: usize, e: u32) -> usize
+pub(crate) fn first_served(work: &[u32], at: usize, from: usize, end: usize, e: u32) -> usize
     requires { ⌜ (at + end < length (now work)) × (from ≤ end + 1) ⌝ }
     ensures { λ r. ⌜ FirstServed (now (work .entry)) at from end e r ⌝ }
 {
@@ -45,13 +45,39 @@ fn first_served(work: &[u32], at: usize, from: usize, end: usize, e: u32) -> usi
     c
 }
 
-// Each entry becomes the least of those up to it.
-fn settle(row: &mut [u32], end: usize)
-    requires { ⌜ end < length (now row) ⌝ }
+// The fewest cores of a rest after task l that has a slack, one more than the board's where none has; 0 behind the last task. The slacks of
+// rests that start with q cores are asked below the fewest so far.
+pub(crate) fn least_rest(work: &[u32], board: Board, l: u8) -> usize
+    requires { ⌜ Area board (now work) × (l ≤ board .tasks) ⌝ }
+    ensures { λ r. ⌜ LeastRest (board .tasks) (board .cores) (now (work .entry)) l r ⌝ }
+{
+    if l == board.tasks {
+        return 0;
+    }
+    let base = (l as usize) * SQUARE;
+    let mut least = (board.cores as usize) + 1;
+    let mut q: usize = 1;
+    while q < least {
+        least = first_served(work, base + q * SIDE, q, least - 1, 0);
+        q += 1;
+    }
+    least
+}
+
+// The later of two numbers of cores.
+fn later(a: usize, b: usize) -> usize
+    ensures { λ r. ⌜ r ≡ largerOf a b ⌝ }
+{
+    if a <= b { b } else { a }
+}
+
+// Each entry becomes the least of those up to it; those before `from` are no transfers.
+fn settle(row: &mut [u32], from: usize, end: usize)
+    requires { ⌜ (end < length (now row)) × NoneBelow (now row) from ⌝ }
     ensures { λ _. ⌜ Settled (now (row .entry)) (now (row .exit)) end ⌝ }
 {
     let mut m = NONE;
-    let mut c: usize = 0;
+    let mut c = from;
     while c <= end {
         let own = row[c];
         m = lesser(m, own);
@@ -68,9 +94,19 @@ pub(crate) fn blank(tasks: u8, l: u8) -> u32
 }
 
 // The cheapest transfers from a module of q cores that ends with task l, by the slacks of the rests after it: each next module counts from
-// the fewest cores of a rest that it can lead, behind `end` where it can lead none. Behind the last task nothing is sent.
-pub(crate) fn cheapest(costs: &[u8], board: Board, work: &[u32], l: u8, q: u8, row: &mut [u32])
-    requires { ⌜ Area board (now work) × (1 ≤ l) × (l ≤ board .tasks) × (1 ≤ q) × (q ≤ board .cores) × (now row ≡ replicate 33 (unsent (board .tasks) l)) ⌝ }
+// the fewest cores of a rest that it can lead, which are `least` or more, behind `end` where it can lead none. One that has no slack with all
+// cores that are left is not asked for its transfer. Behind the last task nothing is sent.
+pub(crate) fn cheapest(
+    costs: &[u8],
+    board: Board,
+    work: &[u32],
+    l: u8,
+    q: u8,
+    least: usize,
+    row: &mut [u32],
+)
+    requires { ⌜ Area board (now work) × (1 ≤ l) × (l ≤ board .tasks) × (1 ≤ q) × (q + least ≤ board .cores) × NoRest (now work) l least
+        × (now row ≡ replicate 33 (unsent (board .tasks) l)) ⌝ }
     ensures { λ _. ⌜ CheapestBy (chainOf (now (costs .entry)) board) (now (work .entry)) (now (row .exit)) l q ⌝ }
 {
     if l == board.tasks {
@@ -80,18 +116,24 @@ pub(crate) fn cheapest(costs: &[u8], board: Board, work: &[u32], l: u8, q: u8, r
     let base = (l as usize) * SQUARE;
     let mut i: u8 = 1;
     while (i as usize) <= end {
+        let led = i as usize;
+        let at = base + led * SIDE;
+        if work[at + end] == 0 {
+            i += 1;
+            continue;
+        }
         let e = modules::transfer(costs, board, l, q, i);
-        let from = i as usize;
-        let c = first_served(work, base + from * SIDE, from, end, e);
+        let from = later(led, least);
+        let c = first_served(work, at, from, end, e);
         let own = row[c];
         row[c] = lesser(own, e);
         i += 1;
     }
-    settle(row, end);
+    settle(row, least, end);
 }
 
 // A word as a time, which may be added to others.
-pub(crate) fn wide(x: u32) -> u64
+pub fn wide(x: u32) -> u64
     ensures { λ r. ⌜ (r ≡ x) × (r < 4294967296) ⌝ }
 {
     x as u64
@@ -118,15 +160,33 @@ fn one_at(n: u64, row: &[u32], q: usize, b: usize) -> u32
     beyond(n / GRAIN, sent)
 }
 
-// What any copies leave; several take `extra` more each (document 02, M-106).
-fn any_at(n: u64, extra: u32, row: &[u32], q: usize, b: usize) -> u32
-    requires { ⌜ (n ≤ topThreshold) × (1 ≤ q) × (q ≤ b) × (b ≤ 32) × (33 ≤ length (now row)) ⌝ }
+// The fewest cores of a rest that something can be sent to, by the first entry that is a transfer, which is none before `from`; one more
+// than `end` where none is.
+pub(crate) fn first_sent(row: &[u32], from: usize, end: usize) -> usize
+    requires { ⌜ (end < length (now row)) × (from ≤ end + 1) × NoneBelow (now row) from ⌝ }
+    ensures { λ r. ⌜ FirstSent (now (row .entry)) end r ⌝ }
+{
+    let mut low = from;
+    while low <= end {
+        if row[low] != NONE {
+            return low;
+        }
+        low += 1;
+    }
+    low
+}
+
+// What any copies leave beside `one`, what one does; several take `extra` more each (document 02, M-106). Copies after which fewer than
+// `low` cores are left leave nothing, since nothing can be sent there.
+fn any_at(n: u64, extra: u32, row: &[u32], q: usize, low: usize, b: usize, one: u32) -> u32
+    requires { ⌜ (n ≤ topThreshold) × (1 ≤ q) × (q + low ≤ b) × (b ≤ 32) × (33 ≤ length (now row)) × NoneBelow (now row) low × LeftByOne n (now row) q b one ⌝ }
     ensures { λ r. ⌜ r ≡ bestBy (timeAt n) extra (rowOf (now (row .entry))) 0 q b ⌝ }
 {
-    let mut m = one_at(n, row, q, b);
+    let most = b - low;
+    let mut m = one;
     let mut r: u64 = 2;
     let mut used = q + q;
-    while used <= b {
+    while used <= most {
         let sent = wide(row[b - used]);
         let v = beyond(n * r / GRAIN, sent + (extra as u64));
         m = larger(m, v);
@@ -136,15 +196,24 @@ fn any_at(n: u64, extra: u32, row: &[u32], q: usize, b: usize) -> u32
     m
 }
 
-// Both for all numbers of cores from q to the board's: that of one copy at b, that of any at 33 + b.
-pub(crate) fn offer(n: u64, extra: u32, row: &[u32], q: usize, cores: usize, left: &mut [u32])
-    requires { ⌜ (n ≤ topThreshold) × (1 ≤ q) × (cores ≤ 32) × (33 ≤ length (now row)) × (66 ≤ length (now left)) ⌝ }
+// Both for all numbers of cores from q to the board's: that of one copy at b, that of any at 33 + b. With fewer than q + low cores, where
+// nothing can be sent, they are the zeros that stand there.
+pub(crate) fn offer(
+    n: u64,
+    extra: u32,
+    row: &[u32],
+    q: usize,
+    low: usize,
+    cores: usize,
+    left: &mut [u32],
+)
+    requires { ⌜ (n ≤ topThreshold) × (1 ≤ q) × (q + low ≤ cores) × (cores ≤ 32) × (33 ≤ length (now row)) × NoneBelow (now row) low × (now left ≡ replicate 66 0) ⌝ }
     ensures { λ _. ⌜ Offered n extra (now (row .entry)) q cores (now (left .exit)) ⌝ }
 {
-    let mut b = q;
+    let mut b = q + low;
     while b <= cores {
         let x = one_at(n, row, q, b);
-        let y = any_at(n, extra, row, q, b);
+        let y = any_at(n, extra, row, q, low, b, x);
         left[b] = x;
         left[SIDE + b] = y;
         b += 1;

@@ -7,10 +7,13 @@ ghost use lib.ListN.{length, getD};
 ghost use lib.Dec.{ltb, leb};
 ghost use Rattle.modules.specs.Model.{chainOf, handed};
 ghost use Rattle.slack.specs.Problem.{none, topThreshold, oneOn, anyOn};
-ghost use Rattle.threshold.specs.Words.{tableWords, executionAt, internalAt, Area, Laid, ReachedIn, Fixed, RowFilled, AllFilled, FilledAfter, Raised, Pushed, PushedAll, Cleared};
+ghost use Rattle.threshold.specs.Words.{tableWords, executionAt, internalAt, Area, Laid, ReachedIn, Fixed, RowFilled, AllFilled, FilledAfter, Raised, LeastRest, NoneLeft, OneNoMore, Pushed, PushedAll, Cleared, NoSlacks};
 use crate::ends::blank;
 use crate::ends::cheapest;
+use crate::ends::first_sent;
+use crate::ends::first_served;
 use crate::ends::larger;
+use crate::ends::least_rest;
 use crate::ends::offer;
 use crate::ends::wide;
 use crate::words::EXECUTIONS;
@@ -82,13 +85,16 @@ fn grow(work: &[u32], t: u8, l: u8, q: u8, own: u64) -> u64
     sum
 }
 
-// The modules of q cores that end with task l, from the shortest to the first that breaks a rule: `left` is what they leave, with one copy
-// and with any, `fixed` the last task that allows no copies.
-fn push(work: &mut [u32], cores: u8, l: u8, q: u8, fixed: u8, left: &[u32])
-    requires { ⌜ (tableWords ≤ length (now work)) × (cores ≤ 32) × (l ≤ 12) × (q ≤ cores) × (66 ≤ length (now left)) ⌝ }
+// The modules of q cores that end with task l, from the shortest to the first that breaks a rule or takes all that is left: `left` is what
+// they leave, with one copy and with any, nothing below `start` cores, and `fixed` the last task that allows no copies. With cores with
+// which a module leaves nothing the longer ones, which take no less, leave nothing either.
+fn push(work: &mut [u32], cores: u8, l: u8, q: u8, start: usize, fixed: u8, left: &[u32])
+    requires { ⌜ (tableWords ≤ length (now work)) × (cores ≤ 32) × (l ≤ 12) × (q ≤ start) × (start ≤ cores) × (66 ≤ length (now left)) × NoneLeft (now left) q start
+        × OneNoMore (now left) q cores ⌝ }
     ensures { λ _. ⌜ PushedAll (now (work .entry)) (now (work .exit)) cores l q fixed (now (left .entry)) ⌝ }
 {
     let mut own: u64 = 0;
+    let mut first = start;
     let mut t = l;
     while 0 < t {
         let before = t - 1;
@@ -97,9 +103,14 @@ fn push(work: &mut [u32], cores: u8, l: u8, q: u8, fixed: u8, left: &[u32])
             return;
         }
         own = grow(work, t, l, q, own);
-        let at = (before as usize) * SQUARE + (q as usize) * SIDE;
+        let taken = capped(own);
         let from = row_of(fixed, before);
-        raise(work, at, left, from, own, q as usize, cores as usize);
+        first = first_served(left, from, first, cores as usize, taken);
+        if (cores as usize) < first {
+            return;
+        }
+        let at = (before as usize) * SQUARE + (q as usize) * SIDE;
+        raise(work, at, left, from, own, first, cores as usize);
         t = before;
     }
 }
@@ -111,20 +122,45 @@ fn row_of(fixed: u8, t: u8) -> usize
     if fixed <= t { SIDE } else { 0 }
 }
 
-// The modules of q cores that end with task l, at the threshold n, whose rests' slacks stand in the row l.
-fn end_at(costs: &[u8], board: Board, work: &mut [u32], n: u64, extra: u32, fixed: u8, l: u8, q: u8)
+// The modules of q cores that end with task l, at the threshold n, whose rests' slacks stand in the row l: none where the task alone breaks
+// a rule, or no rest fits beside a copy. They leave nothing with fewer cores than a copy and the least rest that is sent to take.
+fn end_at(
+    costs: &[u8],
+    board: Board,
+    work: &mut [u32],
+    n: u64,
+    extra: u32,
+    fixed: u8,
+    least: usize,
+    l: u8,
+    q: u8,
+)
     requires { ⌜ Area board (now work) × (n ≤ topThreshold) × (extra ≡ handed (chainOf (now costs) board) 2) × Fixed (chainOf (now costs) board) l fixed
         × (1 ≤ l) × (l ≤ board .tasks) × (1 ≤ q) × (q ≤ board .cores) × Laid (chainOf (now costs) board) (now work)
-        × (l < board .tasks → RowFilled (chainOf (now costs) board) n (now work) l) ⌝ }
+        × (l < board .tasks → RowFilled (chainOf (now costs) board) n (now work) l) × LeastRest (board .tasks) (board .cores) (now work) l least ⌝ }
     ensures { λ _. ⌜ Pushed (chainOf (now (costs .entry)) board) (now (work .entry)) (now (work .exit))
         (oneOn (chainOf (now (costs .entry)) board) n l q) (anyOn (chainOf (now (costs .entry)) board) n l q) 0 l q ⌝ }
 {
+    let cores = board.cores as usize;
+    let end = cores - (q as usize);
+    if end < least {
+        return;
+    }
+    let alone = ((l - 1) as usize) * SIDE + (q as usize);
+    if work[REACHES + alone] < (l as u32) {
+        return;
+    }
     let unsent = blank(board.tasks, l);
     let mut row = [unsent; SIDE];
-    cheapest(costs, board, work, l, q, &mut row);
+    cheapest(costs, board, work, l, q, least, &mut row);
+    let low = first_sent(&row, least, end);
+    if end < low {
+        return;
+    }
     let mut left = [0u32; 66];
-    offer(n, extra, &row, q as usize, board.cores as usize, &mut left);
-    push(work, board.cores, l, q, fixed, &left);
+    offer(n, extra, &row, q as usize, low, cores, &mut left);
+    let start = (q as usize) + low;
+    push(work, board.cores, l, q, start, fixed, &left);
 }
 
 // The modules that end with task l, of all numbers of cores.
@@ -136,23 +172,36 @@ fn end_all(costs: &[u8], board: Board, work: &mut [u32], n: u64, l: u8)
 {
     let extra = modules::handed(costs, board, 2);
     let fixed = last_fixed(costs, board, l);
+    let least = least_rest(work, board, l);
     let mut q: u8 = 1;
     while q <= board.cores {
-        end_at(costs, board, work, n, extra, fixed, l, q);
+        end_at(costs, board, work, n, extra, fixed, least, l, q);
         q += 1;
     }
 }
 
-// No slack for any rest of a chain of so many tasks.
-fn clear(work: &mut [u32], tasks: u8)
-    requires { ⌜ (tableWords ≤ length (now work)) × (tasks ≤ 12) ⌝ }
-    ensures { λ _. ⌜ Cleared (now (work .entry)) (now (work .exit)) (tasks * 1089) ⌝ }
+// No slack for any rest after task t, with up to so many cores.
+fn clear_after(work: &mut [u32], t: u8, cores: u8)
+    requires { ⌜ (tableWords ≤ length (now work)) × (t < 12) × (cores ≤ 32) ⌝ }
+    ensures { λ _. ⌜ Cleared (now (work .entry)) (now (work .exit)) (t * 1089) (t * 1089 + (cores + 1) * 33) ⌝ }
 {
-    let end = (tasks as usize) * SQUARE;
-    let mut i: usize = 0;
+    let mut i = (t as usize) * SQUARE;
+    let end = i + ((cores as usize) + 1) * SIDE;
     while i < end {
         work[i] = 0;
         i += 1;
+    }
+}
+
+// No slack for any rest of a chain of so many tasks, with up to so many cores.
+fn clear(work: &mut [u32], tasks: u8, cores: u8)
+    requires { ⌜ (tableWords ≤ length (now work)) × (tasks ≤ 12) × (cores ≤ 32) ⌝ }
+    ensures { λ _. ⌜ NoSlacks (now (work .entry)) (now (work .exit)) tasks cores ⌝ }
+{
+    let mut t: u8 = 0;
+    while t < tasks {
+        clear_after(work, t, cores);
+        t += 1;
     }
 }
 
@@ -162,7 +211,7 @@ pub(crate) fn fill(costs: &[u8], board: Board, work: &mut [u32], n: u64)
     ensures { λ _. ⌜ (length (now (work .exit)) ≡ length (now (work .entry))) × Laid (chainOf (now (costs .entry)) board) (now (work .exit))
         × AllFilled (chainOf (now (costs .entry)) board) n (now (work .exit)) ⌝ }
 {
-    clear(work, board.tasks);
+    clear(work, board.tasks, board.cores);
     let mut l = board.tasks;
     while 0 < l {
         end_all(costs, board, work, n, l);

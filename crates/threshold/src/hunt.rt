@@ -7,12 +7,11 @@ ghost use lib.ListN.{length};
 ghost use lib.Dec.{leb};
 ghost use Rattle.modules.specs.Model.{chainOf};
 ghost use Rattle.slack.specs.Problem.{topThreshold};
-ghost use Rattle.threshold.specs.Words.{Area, Laid, Roomy};
+ghost use Rattle.threshold.specs.Words.{Area, Laid, AllFilled, Roomy};
 ghost use Rattle.threshold.specs.Threshold.{Decided, Searched, Bracket, Tried};
 use crate::fill::fill;
 use crate::lay::lay;
 use crate::words::WORDS;
-use crate::words::zero;
 use guess::Hunt;
 use guess::TOP;
 use guess::choose;
@@ -69,13 +68,11 @@ fn found(h: Hunt, n: u64, own: u64, cores: u8) -> Hunt
     }
 }
 
-// One try.
-fn try_at(costs: &[u8], board: Board, work: &mut [u32], n: u64, h: Hunt) -> Hunt
-    requires { ⌜ Area board (now work) × Laid (chainOf (now costs) board) (now work) × Bracket (chainOf (now costs) board) (h .lo) (h .hi) × (h .lo ≤ n) × (n < h .hi) ⌝ }
-    ensures { λ r. ⌜ (length (now (work .exit)) ≡ length (now (work .entry))) × Laid (chainOf (now (costs .entry)) board) (now (work .exit))
-        × Tried (chainOf (now (costs .entry)) board) n h r ⌝ }
+// What a try at n has shown, by the slack table of n.
+fn narrowed(costs: &[u8], board: Board, work: &[u32], n: u64, h: Hunt) -> Hunt
+    requires { ⌜ Area board (now work) × AllFilled (chainOf (now costs) board) n (now work) × Bracket (chainOf (now costs) board) (h .lo) (h .hi) × (h .lo ≤ n) × (n < h .hi) ⌝ }
+    ensures { λ r. ⌜ Tried (chainOf (now (costs .entry)) board) n h r ⌝ }
 {
-    fill(costs, board, work, n);
     if !has_slack(work, board.cores) {
         return missed(h, n);
     }
@@ -96,7 +93,8 @@ fn jump(costs: &[u8], board: Board, work: &mut [u32], from: Hunt) -> Hunt
             return h;
         }
         let n = choose(h, board.cores);
-        let next = try_at(costs, board, work, n, h);
+        fill(costs, board, work, n);
+        let next = narrowed(costs, board, work, n, h);
         h = next;
         i += 1;
     }
@@ -106,7 +104,8 @@ fn jump(costs: &[u8], board: Board, work: &mut [u32], from: Hunt) -> Hunt
 // Tries that halve the bracket until nothing is left of it, up to HALVES of them: the least threshold.
 fn halve(costs: &[u8], board: Board, work: &mut [u32], from: Hunt) -> u64
     requires { ⌜ Area board (now work) × Laid (chainOf (now costs) board) (now work) × Bracket (chainOf (now costs) board) (from .lo) (from .hi) ⌝ }
-    ensures { λ r. ⌜ (length (now (work .exit)) ≡ length (now (work .entry))) × Decided (chainOf (now (costs .entry)) board) r ⌝ }
+    ensures { λ r. ⌜ (length (now (work .exit)) ≡ length (now (work .entry))) × Laid (chainOf (now (costs .entry)) board) (now (work .exit))
+        × Decided (chainOf (now (costs .entry)) board) r ⌝ }
 {
     let mut h = from;
     let mut left = HALVES;
@@ -115,7 +114,8 @@ fn halve(costs: &[u8], board: Board, work: &mut [u32], from: Hunt) -> u64
             return h.lo;
         }
         let n = (h.lo + h.hi) / 2;
-        let next = try_at(costs, board, work, n, h);
+        fill(costs, board, work, n);
+        let next = narrowed(costs, board, work, n, h);
         h = next;
         left -= 1;
     }
@@ -142,7 +142,7 @@ fn has_room(board: Board, words: usize) -> bool
 }
 
 // The least threshold that some plan is within, TOP + 1 where none is within TOP, or where the board is out of range or the words are too
-// few. The words are zero afterwards, or as they came in the last two cases.
+// few. The words hold its slack table afterwards, or are as they came in the last two cases.
 pub fn least_threshold(costs: &[u8], board: Board, work: &mut [u32]) -> u64
     ensures { λ r. ⌜ Searched (chainOf (now (costs .entry)) board) board (now (work .entry)) (now (work .exit)) r ⌝ }
 {
@@ -153,6 +153,9 @@ pub fn least_threshold(costs: &[u8], board: Board, work: &mut [u32]) -> u64
     let h = start(costs, board);
     let near = jump(costs, board, work, h);
     let n = halve(costs, board, work, near);
-    zero(work);
+    if TOP < n {
+        return n;
+    }
+    fill(costs, board, work, n);
     n
 }

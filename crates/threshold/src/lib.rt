@@ -13,5 +13,9 @@ mod lay;
 mod words;
 
 pub use ends::lesser;
+pub use ends::wide;
 pub use hunt::least_threshold;
+pub use words::EXECUTIONS;
+pub use words::INTERNALS;
+pub use words::REACHES;
 pub use words::zero;

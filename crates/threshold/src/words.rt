@@ -7,11 +7,11 @@ pub(crate) const WORDS: usize = 14256;
 
 // What a task takes at q cores, its internal transfer to the next one, and the last task of the longest module of one copy that starts
 // with it, each at its start + t · 33 + q for the task t + 1.
-pub(crate) const EXECUTIONS: usize = 13068;
+pub const EXECUTIONS: usize = 13068;
 
-pub(crate) const INTERNALS: usize = 13464;
+pub const INTERNALS: usize = 13464;
 
-pub(crate) const REACHES: usize = 13860;
+pub const REACHES: usize = 13860;
 
 // Above every time within which a module can be.
 pub(crate) const NONE: u32 = 4294967295;

@@ -1,14 +1,13 @@
 -- `search` finds what the definition that tries every plan finds: nothing where no plan is within the greatest threshold, else the
 -- plan of the least one that some plan is within, laid from its table.
-use mathlib.Core.Path.{refl, _∙_}
 use native.Mathlib.Omega.{arith}
-use lib.ListN.{length}
+use mathlib.Core.Path.{refl, _∙_}
 use borrow.Author.Needs.{needs}
 use Rattle.modules.specs.Model.{chainOf}
 use Rattle.layout.specs.Layout.{encode}
 use Rattle.layout.proofs.Placing.{put-room}
-use Rattle.planners.proofs.Laying.{feasible-light}
-use Rattle.planners.proofs.Serving.{zeroed-length, zeroed, zero-holds, area, decided-feasible, decided-bottom, none-answer, none-bytes, plan-reached, plan-answer, plan-bytes}
+use Rattle.planners.proofs.Beginning.{fewest-board}
+use Rattle.planners.proofs.Serving.{area, tabled, decided-feasible, decided-bottom, none-answer, none-bytes, light-some, plan-reached, plan-answer, plan-bytes}
 use Rattle.planners.proofs.best.search.Statement.{statement}
 use Rattle.planners.proofs.best.search.Tie as tie
 
@@ -28,19 +27,22 @@ returns c =
     let found = c .before .before .before .before .least-threshold .ensures .decided (area (a .costs .now) (a .board) (s .pre .0) (a .work .now) (s .pre .2)) in (
       c .refuse .ensures ∙ none-answer (a .costs .now) (a .board) (s .pre .0) (found .0) (c .before .if1 .taken),
       none-bytes (a .costs .now) (a .board) (s .pre .0) (found .0) (c .before .if1 .taken) (a .plan .now),
-      zeroed-length (length (a .work .now)) (found .1),
+      found .1,
     )
 
-each-reach-requires : tie.Need-each-reach-requires
-each-reach-requires c κs = search needs
+fewest-cores-requires : tie.Need-fewest-cores-requires
+fewest-cores-requires c κs = search needs
 
 weight-within-requires : tie.Need-weight-within-requires
 weight-within-requires c κs =
-    let s = c .before .before .before .before .before .before .before .before .before .before in
+    let s = c .before .before .before .before .before .before .before .before .before .before .before in
     let a = s .args in
-    let found = c .before .before .before .before .before .least-threshold .ensures .decided (area (a .costs .now) (a .board) (s .pre .0) (a .work .now) (s .pre .2)) in
-    let same = zeroed-length (length (a .work .now)) (found .1) in
-    (zero-holds (a .costs .now) (a .board) (s .pre .0) (omega (arith, s .pre .2)) (zeroed (length (a .work .now)) (found .1)), c .before .before .if1 .left, c .before .each-reach .ensures)
+    let n = c .before .before .before .before .before .before .least-threshold in
+    let found = n .ensures .decided (area (a .costs .now) (a .board) (s .pre .0) (a .work .now) (s .pre .2)) in
+    let low = c .before .before .before .if1 .left in
+    let whole = c .before .fewest-cores .ensures (chainOf (a .costs .now) (a .board)) (n .result) refl (s .pre .0 .ranged .some-tasks) (found .3 low) in
+    let few = fewest-board (chainOf (a .costs .now) (a .board)) (n .result) (s .pre .0 .ranged .some-tasks) (found .0 .some-plan low) in
+    (tabled (a .costs .now) (a .board) (s .pre .0) (a .work .now) (s .pre .2) found low, whole, omega arith)
 
 slice-aggregate-lay-path : tie.Need-slice-aggregate-lay-path
 slice-aggregate-lay-path c = search needs
@@ -48,24 +50,26 @@ slice-aggregate-lay-path c = search needs
 lay-path-requires : tie.Need-lay-path-requires
 unfolding encode
 lay-path-requires c κs =
-    let s = c .before .before .before .before .before .before .before .before .before .before .before .before .before .before .before in
+    let s = c .before .before .before .before .before .before .before .before .before .before .before .before .before .before .before .before in
     let a = s .args in
-    let n = c .before .before .before .before .before .before .before .before .before .before .least-threshold in
+    let n = c .before .before .before .before .before .before .before .before .before .before .before .least-threshold in
     let found = n .ensures .decided (area (a .costs .now) (a .board) (s .pre .0) (a .work .now) (s .pre .2)) in
-    let low = c .before .before .before .before .before .before .before .if1 .left in
+    let low = c .before .before .before .before .before .before .before .before .if1 .left in
     let t = c .before .before .before .before .weight-within .ensures in
-    (t .1, low, t .0, feasible-light (chainOf (a .costs .now) (a .board)) (n .result) (t .0) (decided-feasible (a .costs .now) (a .board) (s .pre .0) (n .result) (found .0) low), t .3, refl, c .before .before .before .before .before .before .each-reach .ensures)
+    let whole = c .before .before .before .before .before .before .fewest-cores .ensures (chainOf (a .costs .now) (a .board)) (n .result) refl (s .pre .0 .ranged .some-tasks) (found .3 low) in
+    let few = fewest-board (chainOf (a .costs .now) (a .board)) (n .result) (s .pre .0 .ranged .some-tasks) (found .0 .some-plan low) in
+    (t .2, t .3, whole, omega arith, t .0, light-some (a .costs .now) (a .board) (s .pre .0) (n .result) (decided-feasible (a .costs .now) (a .board) (s .pre .0) (n .result) (found .0) low) (t .0), refl)
 
 put-plan-requires : tie.Need-put-plan-requires
 put-plan-requires c κs = search needs
 
 figures-of-requires : tie.Need-figures-of-requires
 figures-of-requires c κs =
-    let s = c .before .before .before .before .before .before .before .before .before .before .before .before .before .before .before .before .before .before .before .before .before in
+    let s = c .before .before .before .before .before .before .before .before .before .before .before .before .before .before .before .before .before .before .before .before .before .before in
     let a = s .args in
-    let n = c .before .before .before .before .before .before .before .before .before .before .before .before .before .before .before .before .least-threshold in
+    let n = c .before .before .before .before .before .before .before .before .before .before .before .before .before .before .before .before .before .least-threshold in
     let found = n .ensures .decided (area (a .costs .now) (a .board) (s .pre .0) (a .work .now) (s .pre .2)) .0 in
-    plan-reached (a .costs .now) (a .board) (s .pre .0) (n .result) (decided-feasible (a .costs .now) (a .board) (s .pre .0) (n .result) found (c .before .before .before .before .before .before .before .before .before .before .before .before .before .if1 .left)) (decided-bottom (a .costs .now) (a .board) (s .pre .0) (n .result) found) (c .before .before .before .before .before .lay-path .ensures)
+    plan-reached (a .costs .now) (a .board) (s .pre .0) (n .result) (decided-feasible (a .costs .now) (a .board) (s .pre .0) (n .result) found (c .before .before .before .before .before .before .before .before .before .before .before .before .before .before .if1 .left)) (decided-bottom (a .costs .now) (a .board) (s .pre .0) (n .result) found) (c .before .before .before .before .before .lay-path .ensures)
 
 same-length-2 : tie.Need-same-length-2
 same-length-2 c = search needs
@@ -75,16 +79,16 @@ same-length-3 c = search needs
 
 returns-2 : tie.Need-returns-2
 returns-2 c =
-    let s = c .before .before .before .before .before .before .before .before .before .before .before .before .before .before .before .before .before .before .before .before .before .before in
+    let s = c .before .before .before .before .before .before .before .before .before .before .before .before .before .before .before .before .before .before .before .before .before .before .before in
     let a = s .args in
-    let n = c .before .before .before .before .before .before .before .before .before .before .before .before .before .before .before .before .before .least-threshold in
+    let n = c .before .before .before .before .before .before .before .before .before .before .before .before .before .before .before .before .before .before .least-threshold in
     let found = n .ensures .decided (area (a .costs .now) (a .board) (s .pre .0) (a .work .now) (s .pre .2)) in
-    let feasible = decided-feasible (a .costs .now) (a .board) (s .pre .0) (n .result) (found .0) (c .before .before .before .before .before .before .before .before .before .before .before .before .before .before .if1 .left) in
+    let feasible = decided-feasible (a .costs .now) (a .board) (s .pre .0) (n .result) (found .0) (c .before .before .before .before .before .before .before .before .before .before .before .before .before .before .before .if1 .left) in
     let bottom = decided-bottom (a .costs .now) (a .board) (s .pre .0) (n .result) (found .0) in
     let laid = c .before .before .before .before .before .before .lay-path .ensures in (
       plan-answer (a .costs .now) (a .board) (s .pre .0) (n .result) feasible bottom laid (c .figures-of .ensures),
       plan-bytes (a .costs .now) (a .board) (s .pre .0) (n .result) feasible bottom laid (a .plan .now) (c .before .before .before .put-plan .ensures ∙ put-room _ (a .plan .now) (s .pre .1)),
-      c .before .before .before .before .before .before .before .before .before .before .before .weight-within .ensures .2 ∙ zeroed-length (length (a .work .now)) (found .1),
+      c .before .before .before .before .before .before .before .before .before .before .before .weight-within .ensures .1 ∙ found .1,
     )
 
 pub search-spec : {M : Type 1} → statement M
@@ -95,7 +99,7 @@ search-spec =
     refuse-requires
     same-length
     returns
-    each-reach-requires
+    fewest-cores-requires
     weight-within-requires
     slice-aggregate-lay-path
     lay-path-requires

@@ -12,19 +12,19 @@ use Rattle.planners.proofs.path.first_copies.Statement.{statement}
 use Rattle.planners.proofs.path.first_copies.Tie as tie
 
 abbrev Inv-loop : tie.InvT-loop
-Inv-loop costs board work n m l first r₀ r =
-    (1 ≤ r) × (r ≤ board .cores + 1) × ((i : ℕ) → i < r → (p : ℕ) → p ≤ board .cores → mayCome (chainOf costs board) work n m l i p ≡ false)
+Inv-loop costs board work n m rooms l first r₀ r =
+    (1 ≤ r) × (r ≤ board .cores + 1) × ((i : ℕ) → i < r → (p : ℕ) → p ≤ board .cores → mayCome (chainOf costs board) n m l i p ≡ false)
 
 abbrev μ-loop : tie.MeasureT-loop
-μ-loop costs board work n m l first r₀ r = board .cores + 1 - r
+μ-loop costs board work n m rooms l first r₀ r = board .cores + 1 - r
 
 add-first : tie.Need-add-first Inv-loop μ-loop
 add-first c = search needs
 
 loop-holds : tie.Need-loop-holds Inv-loop μ-loop
 loop-holds c =
-    let a = c .before .before .before .args in
-    (omega arith, omega arith, λ i h p _. comes-not (chainOf (a .costs .now) (a .board)) (a .work .now) (a .n) (a .m) (a .l) i p (λ _ some _. omega arith))
+    let a = c .before .before .before .before .args in
+    (omega arith, omega arith, λ i h p _. comes-not (chainOf (a .costs .now) (a .board)) (a .n) (a .m) (a .l) i p (λ q f. omega (arith, f .fits .some-copies)))
 
 first-cores-requires : tie.Need-first-cores-requires Inv-loop μ-loop
 first-cores-requires c κs = search needs

@@ -11,13 +11,15 @@ returns : tie.Need-returns
 unfolding roomOf
 returns c = simp (eq-eqb _ _ (c .if1 .taken))
 
-fits-at-requires : tie.Need-fits-at-requires
-fits-at-requires c κs =
-    let b = c .before .before .before in
-    (b .pre .0, b .pre .1, b .pre .2 .passed (c .if1 .left))
+spares-at-requires : tie.Need-spares-at-requires
+spares-at-requires c κs =
+    let b = c .before .before .before .before in
+    let m = b .pre .1 in
+    let later = c .if1 .left in
+    (b .pre .0, m .reached later, m .few later, m .spares later .0, m .spares later .1)
 
 price-requires : tie.Need-price-requires
-price-requires c κs = c .before .before .before .before .before .pre .2 .passed (c .before .before .if1 .left)
+price-requires c κs = c .before .before .before .before .before .before .pre .1 .reached (c .before .before .if1 .left)
 
 cast-if3 : tie.Need-cast-if3
 cast-if3 c = search needs
@@ -32,19 +34,28 @@ returns-2 : tie.Need-returns-2
 unfolding roomOf pick
 returns-2 c =
     let o = c .before .before .before in
-    simp (ne-eqb _ _ (o .before .before .before .if1 .left), ← (o .before .before .fits-at .ensures), o .before .if2 .taken) (omega (arith, o .price .ensures .0))
+    simp (ne-eqb _ _ (o .before .before .before .if1 .left), ← (o .before .before .spares-at .ensures), o .before .if2 .taken) (omega (arith, o .price .ensures .0))
 
 returns-3 : tie.Need-returns-3
 unfolding roomOf pick
 returns-3 c =
     let o = c .before .before in
-    simp (ne-eqb _ _ (o .before .before .before .if1 .left), ← (o .before .before .fits-at .ensures), o .before .if2 .taken) (omega (arith, o .price .ensures .0))
+    simp (ne-eqb _ _ (o .before .before .before .if1 .left), ← (o .before .before .spares-at .ensures), o .before .if2 .taken) (omega (arith, o .price .ensures .0))
 
 returns-4 : tie.Need-returns-4
 unfolding roomOf pick
-returns-4 c = simp (ne-eqb _ _ (c .before .before .if1 .left), ← (c .before .fits-at .ensures), c .if2 .left)
+returns-4 c = simp (ne-eqb _ _ (c .before .before .if1 .left), ← (c .before .spares-at .ensures), c .if2 .left)
 
 pub room-of-spec : {M : Type 1} → statement M
 room-of-spec =
     tie.close
-    (tie.spec returns fits-at-requires price-requires cast-if3 cast-result sub-result returns-2 returns-3 returns-4)
+    (tie.spec
+    returns
+    spares-at-requires
+    price-requires
+    cast-if3
+    cast-result
+    sub-result
+    returns-2
+    returns-3
+    returns-4)

@@ -1,16 +1,18 @@
--- `offer` writes what one copy and what any copies leave for each number of cores that it passes; the two rows stand apart.
+-- `offer` writes what one copy and what any copies leave for each number of cores that it passes; the two rows stand apart. With fewer cores
+-- both leave nothing.
 use Prim.Native.Nat.{ℕ, _+_, _-_, _≤_, _<_}
 use native.Mathlib.Nat.{le-refl}
 use native.Mathlib.Omega.{arith}
-use mathlib.Core.Path.{_≡_, refl, _∙_}
+use mathlib.Core.Path.{_≡_, sym, ap, _∙_}
 use mathlib.Core.Logic.{⊎-elim}
 use mathlib.Core.List.{List}
-use lib.ListN.{length, getD, set, length-set}
+use lib.ListN.{length, getD, set, replicate, length-set, length-replicate, getD-replicate}
 use lib.Seq.{getD-set-same, getD-set-other}
 use borrow.Author.Needs.{needs}
 use Rattle.records.proofs.Cases.{lt-or-le}
 use Rattle.slack.specs.Fill.{leftBy, bestBy}
 use Rattle.threshold.specs.Words.{timeAt, rowOf}
+use Rattle.threshold.proofs.Offering.{one-bare, any-bare}
 use Rattle.threshold.proofs.ends.offer.Statement.{statement}
 use Rattle.threshold.proofs.ends.offer.Tie as tie
 
@@ -31,21 +33,43 @@ both-more w q b x y f g long low h ex ey = record {
       (lt-or-le j b);
 }
 
+-- a list of zeros
+zeros-length : (w : List ℕ) → w ≡ replicate 66 0 → length w ≡ 66
+zeros-length w e = ap length e ∙ length-replicate {A = ℕ} 66 0
+
+zeros-at : (w : List ℕ) (j : ℕ) → w ≡ replicate 66 0 → j < 66 → getD w j 0 ≡ 0
+zeros-at w j e h = ap (λ x. getD x j 0) e ∙ getD-replicate {A = ℕ} 66 j 0 0 h
+
 abbrev Inv-loop : tie.InvT-loop
-Inv-loop n extra row q cores left₀ b₀ left b =
-    (length left ≡ length left₀) × Both left q b (λ j. leftBy (timeAt n) extra (rowOf row) 0 q j 1) (bestBy (timeAt n) extra (rowOf row) 0 q) × (q ≤ b)
+Inv-loop n extra row q low cores left₀ b₀ left b =
+    (length left ≡ 66) × Both left q b (λ j. leftBy (timeAt n) extra (rowOf row) 0 q j 1) (bestBy (timeAt n) extra (rowOf row) 0 q) × (q + low ≤ b)
 
 abbrev μ-loop : tie.MeasureT-loop
-μ-loop n extra row q cores left₀ b₀ left b = cores + 1 - b
+μ-loop n extra row q low cores left₀ b₀ left b = cores + 1 - b
+
+add-b : tie.Need-add-b Inv-loop μ-loop
+add-b c = omega arith
 
 loop-holds : tie.Need-loop-holds Inv-loop μ-loop
-loop-holds c = (refl, record { one = λ j p l. absurd (omega arith); any = λ j p l. absurd (omega arith) }, le-refl _)
+loop-holds c =
+    let b = c .before .before in
+    let a = b .args in
+    let blank = b .pre .6 in (
+      zeros-length (a .left .now) blank,
+      record {
+        one = λ j p l. zeros-at (a .left .now) j blank (omega arith) ∙ sym (one-bare (a .n) (a .extra) (rowOf (a .row .now)) 0 (a .q) j (a .low) (b .pre .0) (b .pre .1) (omega arith) (b .pre .5) l);
+        any = λ j p l. zeros-at (a .left .now) (33 + j) blank (omega arith) ∙ sym (any-bare (a .n) (a .extra) (rowOf (a .row .now)) 0 (a .q) j (a .low) (b .pre .0) (b .pre .1) (omega arith) (b .pre .5) l);
+      },
+      le-refl _,
+    )
 
 one-at-requires : tie.Need-one-at-requires Inv-loop μ-loop
 one-at-requires c κs = search needs
 
 any-at-requires : tie.Need-any-at-requires Inv-loop μ-loop
-any-at-requires c κs = search needs
+any-at-requires c κs =
+    let p = c .before .before .before .before .before .pre in
+    (p .0, p .1, c .before .before .loop .inv .2, omega arith, p .4, p .5, c .one-at .ensures)
 
 mul-left : tie.Need-mul-left Inv-loop μ-loop
 mul-left c = omega arith
@@ -62,8 +86,8 @@ mul-left-2 c = omega arith
 slice-write-left-2 : tie.Need-slice-write-left-2 Inv-loop μ-loop
 slice-write-left-2 c = omega (arith, length-set (c .before .before .before .loop .left) (c .before .before .before .loop .b) (c .before .one-at .result))
 
-add-b : tie.Need-add-b Inv-loop μ-loop
-add-b c = omega arith
+add-b-2 : tie.Need-add-b-2 Inv-loop μ-loop
+add-b-2 c = omega arith
 
 loop-less : tie.Need-loop-less Inv-loop μ-loop
 loop-less c = omega arith
@@ -80,7 +104,7 @@ loop-again c =
     )
 
 same-length : tie.Need-same-length Inv-loop μ-loop
-same-length c = c .before .loop .inv .0
+same-length c = c .before .loop .inv .0 ∙ sym (zeros-length _ (c .before .before .before .before .pre .6))
 
 returns : tie.Need-returns Inv-loop μ-loop
 returns c =
@@ -93,6 +117,7 @@ offer-spec =
     (tie.spec
     Inv-loop
     μ-loop
+    add-b
     loop-holds
     one-at-requires
     any-at-requires
@@ -101,7 +126,7 @@ offer-spec =
     add-left
     mul-left-2
     slice-write-left-2
-    add-b
+    add-b-2
     loop-less
     loop-again
     same-length

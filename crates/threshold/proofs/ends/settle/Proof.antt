@@ -3,16 +3,18 @@ use Prim.Native.Nat.{ℕ, _+_, _-_, _≤_, _<_}
 use native.Mathlib.Nat.{le-refl}
 use native.Mathlib.Numerals.{add-one}
 use native.Mathlib.Omega.{arith}
-use mathlib.Core.Path.{_≡_, refl, _∙_}
+use mathlib.Core.Path.{_≡_, refl, sym, _∙_}
 use mathlib.Core.Logic.{⊎-elim}
+use mathlib.Core.List.{List}
 use lib.ListN.{length, getD, length-set}
 use lib.Seq.{getD-set-same, getD-set-other}
 use borrow.Author.Needs.{needs}
 use Rattle.records.proofs.Cases.{lt-or-le}
 use Rattle.search.specs.Least.{least}
-use Rattle.search.proofs.Least.{least-start, least-more}
+use Rattle.search.proofs.Least.{least-none, least-more}
 use Rattle.slack.specs.Fill.{lowest}
 use Rattle.slack.specs.Problem.{none}
+use Rattle.threshold.specs.Words.{NoneBelow}
 use Rattle.threshold.proofs.ends.settle.Statement.{statement}
 use Rattle.threshold.proofs.ends.settle.Tie as tie
 
@@ -21,17 +23,29 @@ lowest-is : (f : ℕ → ℕ) (c : ℕ) → least none (c + 1) f ≡ lowest none
 unfolding lowest
 lowest-is f c = rw add-one
 
+-- it is none where all are
+none-lowest : (row : List ℕ) (from c : ℕ) → NoneBelow row from → c ≤ from → none ≡ least none c (λ j. getD row j 0)
+none-lowest row from c bare h = sym (least-none none c (λ j. getD row j 0) (λ i u. omega (arith, bare i (omega arith))))
+
 abbrev Inv-loop : tie.InvT-loop
-Inv-loop row₀ end m₀ c₀ row m c =
+Inv-loop row₀ from end m₀ c₀ row m c =
     (length row ≡ length row₀) × (m ≡ least none c (λ j. getD row₀ j 0))
     × ((j : ℕ) → j < c → getD row j 0 ≡ lowest none (λ i. getD row₀ i 0) j)
     × ((j : ℕ) → c ≤ j → getD row j 0 ≡ getD row₀ j 0)
 
 abbrev μ-loop : tie.MeasureT-loop
-μ-loop row₀ end m₀ c₀ row m c = end + 1 - c
+μ-loop row₀ from end m₀ c₀ row m c = end + 1 - c
 
 loop-holds : tie.Need-loop-holds Inv-loop μ-loop
-loop-holds c = (refl, least-start _ _, λ j h. absurd (omega arith), λ j h. refl)
+loop-holds c =
+    let b = c .before in
+    let a = b .args in
+    let bare = b .pre .1 in (
+      refl,
+      none-lowest (a .row .now) (a .from) (a .from) bare (le-refl _),
+      λ j h. bare j h ∙ none-lowest (a .row .now) (a .from) (j + 1) bare (omega arith) ∙ lowest-is (λ k. getD (a .row .now) k 0) j,
+      λ j h. refl,
+    )
 
 mul-own : tie.Need-mul-own Inv-loop μ-loop
 mul-own c = omega arith

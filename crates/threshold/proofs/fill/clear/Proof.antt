@@ -1,40 +1,34 @@
--- `clear` writes zeros one by one: the words below i are 0, all others as they were.
-use mathlib.Core.Path.{_≡_}
-use Prim.Native.Nat.{_-_, _*_, _≤_}
+-- `clear` goes from task to task: no rest after one that it has passed has a slack.
+use Prim.Native.Nat.{_-_, _≤_}
 use native.Mathlib.Omega.{arith}
-use Rattle.threshold.specs.Words.{Cleared}
-use Rattle.threshold.proofs.Laying.{cleared-none, cleared-more}
+use mathlib.Core.Path.{_≡_}
+use Rattle.threshold.specs.Words.{NoSlacks}
+use Rattle.threshold.proofs.Laying.{slacks-none, slacks-more}
 use Rattle.threshold.proofs.fill.clear.Statement.{statement}
 use Rattle.threshold.proofs.fill.clear.Tie as tie
 
 abbrev Inv-loop : tie.InvT-loop
-Inv-loop work₀ tasks end i₀ work i = (i ≤ end) × Cleared work₀ work i
+Inv-loop work₀ tasks cores t₀ work t = (t ≤ tasks) × NoSlacks work₀ work t cores
 
 abbrev μ-loop : tie.MeasureT-loop
-μ-loop work₀ tasks end i₀ work i = end - i
-
-mul-end : tie.Need-mul-end Inv-loop μ-loop
-mul-end c = omega arith
+μ-loop work₀ tasks cores t₀ work t = tasks - t
 
 loop-holds : tie.Need-loop-holds Inv-loop μ-loop
-loop-holds c = (omega arith, cleared-none _)
+loop-holds c = (omega arith, slacks-none _ _)
 
-mul-work : tie.Need-mul-work Inv-loop μ-loop
-mul-work c = omega arith
+clear-after-requires : tie.Need-clear-after-requires Inv-loop μ-loop
+clear-after-requires c κs = (omega (arith, c .before .before .loop .inv .1 .long), omega arith, omega arith)
 
-slice-write-work : tie.Need-slice-write-work Inv-loop μ-loop
-slice-write-work c = omega (arith, c .before .loop .inv .1 .long)
-
-add-i : tie.Need-add-i Inv-loop μ-loop
-add-i c = omega arith
+add-t : tie.Need-add-t Inv-loop μ-loop
+add-t c = omega arith
 
 loop-less : tie.Need-loop-less Inv-loop μ-loop
 loop-less c = omega arith
 
 loop-again : tie.Need-loop-again Inv-loop μ-loop
 loop-again c =
-    let o = c .before .loop in
-    (omega arith, cleared-more (c .before .before .args .work .now) (o .work) (o .i) (omega (arith, o .inv .1 .long)) (o .inv .1))
+    let o = c .before .before .before .before .before .loop in
+    (omega arith, slacks-more _ _ _ (o .t) _ (omega arith) (omega arith) (o .inv .1) (c .before .before .clear-after .ensures))
 
 same-length : tie.Need-same-length Inv-loop μ-loop
 same-length c = c .before .loop .inv .1 .long
@@ -42,22 +36,8 @@ same-length c = c .before .loop .inv .1 .long
 returns : tie.Need-returns Inv-loop μ-loop
 returns c =
     let o = c .before .loop in
-    let a = c .before .before .args in
-    let e : o .i ≡ a .tasks * 1089 = omega arith in
+    let e : o .t ≡ c .before .before .before .args .tasks = omega arith in
     rw (← e) (o .inv .1)
 
 pub clear-spec : {M : Type 1} → statement M
-clear-spec =
-    tie.close
-    (tie.spec
-    Inv-loop
-    μ-loop
-    mul-end
-    loop-holds
-    mul-work
-    slice-write-work
-    add-i
-    loop-less
-    loop-again
-    same-length
-    returns)
+clear-spec = tie.close (tie.spec Inv-loop μ-loop loop-holds clear-after-requires add-t loop-less loop-again same-length returns)

@@ -30,7 +30,7 @@ loop-holds c =
       le-refl _,
       refl,
       laid-words k (a .work .now) _ (λ j h. cleared .kept j (omega arith)) (b .pre .2),
-      cleared-after k (a .n) (b .pre .1) (omega arith) (omega arith) (a .work .now) _ cleared,
+      cleared-after k (a .n) (b .pre .1) (a .work .now) _ cleared,
     )
 
 end-all-requires : tie.Need-end-all-requires Inv-loop μ-loop

@@ -30,17 +30,22 @@ returns : tie.Need-returns Inv-loop μ-loop
 returns c =
     let i = c .before .before .before .loop .inv in
     let a = c .before .before .before .before .before .before .args in
-    (i .0, bracket-decided (chainOf (a .costs .now) (a .board)) (i .2) (c .if1 .taken))
+    (i .0, i .1, bracket-decided (chainOf (a .costs .now) (a .board)) (i .2) (c .if1 .taken))
 
 add-n : tie.Need-add-n Inv-loop μ-loop
 add-n c = let i = c .before .before .before .before .loop .inv in omega (arith, i .2 .ordered, i .2 .high)
 
-try-at-requires : tie.Need-try-at-requires Inv-loop μ-loop
-try-at-requires c κs =
+fill-requires : tie.Need-fill-requires Inv-loop μ-loop
+fill-requires c κs =
     let i = c .before .before .before .before .before .loop .inv in
-    let s = c .before .before .before .before .before .before .before .before in
-    let below = c .before .before .if1 .left in
-    (rw (i .0) (s .pre .0), i .1, i .2, omega (arith, below), omega (arith, below))
+    (rw (i .0) (c .before .before .before .before .before .before .before .before .pre .0), omega (arith, c .before .before .if1 .left, i .2 .high), i .1)
+
+narrowed-requires : tie.Need-narrowed-requires Inv-loop μ-loop
+narrowed-requires c κs =
+    let i = c .before .before .before .before .before .before .before .before .before .loop .inv in
+    let f = c .before .before .before .fill .ensures in
+    let below = c .before .before .before .before .before .before .if1 .left in
+    (rw (f .0 ∙ i .0) (c .before .before .before .before .before .before .before .before .before .before .before .before .pre .0), f .2, i .2, omega (arith, below), omega (arith, below))
 
 sub-left : tie.Need-sub-left Inv-loop μ-loop
 sub-left c = omega arith
@@ -50,11 +55,12 @@ loop-less c = omega arith
 
 loop-again : tie.Need-loop-again Inv-loop μ-loop
 loop-again c =
-    let o = c .before .before .before .before .before .before .before .before .loop in
+    let o = c .before .before .before .before .before .before .before .before .before .before .loop in
     let i = o .inv in
-    let a = c .before .before .before .before .before .before .before .before .before .before .before .args in
-    let t = c .before .before .try-at .ensures in
-    (t .0 ∙ i .0, t .1, t .2 .bracket, tried-half (chainOf (a .costs .now) (a .board)) (o .left) (omega arith) refl (c .before .before .before .before .before .if1 .left) (i .3) (t .2))
+    let a = c .before .before .before .before .before .before .before .before .before .before .before .before .before .args in
+    let f = c .before .before .before .before .fill .ensures in
+    let t = c .narrowed .ensures in
+    (f .0 ∙ i .0, f .1, t .bracket, tried-half (chainOf (a .costs .now) (a .board)) (o .left) (omega (arith, c .before .before .before .before .before .before .before .before .before .loop-test .taken)) refl (c .before .before .before .before .before .before .before .if1 .left) (i .3) t)
 
 same-length-2 : tie.Need-same-length-2 Inv-loop μ-loop
 same-length-2 c = c .before .loop .inv .0
@@ -63,7 +69,7 @@ returns-2 : tie.Need-returns-2 Inv-loop μ-loop
 returns-2 c =
     let i = c .before .loop .inv in
     let a = c .before .before .before .before .args in
-    (i .0, bracket-decided (chainOf (a .costs .now) (a .board)) (i .2) (width-none (chainOf (a .costs .now) (a .board)) _ _ (c .before .loop .left) (omega arith) (i .3)))
+    (i .0, i .1, bracket-decided (chainOf (a .costs .now) (a .board)) (i .2) (width-none (chainOf (a .costs .now) (a .board)) _ _ (c .before .loop .left) (omega arith) (i .3)))
 
 pub halve-spec : {M : Type 1} → statement M
 halve-spec =
@@ -75,7 +81,8 @@ halve-spec =
     same-length
     returns
     add-n
-    try-at-requires
+    fill-requires
+    narrowed-requires
     sub-left
     loop-less
     loop-again

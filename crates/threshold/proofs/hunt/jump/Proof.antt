@@ -33,12 +33,18 @@ returns c =
 choose-requires : tie.Need-choose-requires Inv-loop μ-loop
 choose-requires c κs = search needs
 
-try-at-requires : tie.Need-try-at-requires Inv-loop μ-loop
-try-at-requires c κs =
+fill-requires : tie.Need-fill-requires Inv-loop μ-loop
+fill-requires c κs =
     let i = c .before .before .before .before .before .loop .inv in
-    let s = c .before .before .before .before .before .before .before .before in
     let n = c .before .choose .ensures (c .before .before .if1 .left) in
-    (rw (i .1) (s .pre .0), i .2, i .3, n .0, n .1)
+    (rw (i .1) (c .before .before .before .before .before .before .before .before .pre .0), omega (arith, n .1, i .3 .high), i .2)
+
+narrowed-requires : tie.Need-narrowed-requires Inv-loop μ-loop
+narrowed-requires c κs =
+    let i = c .before .before .before .before .before .before .before .before .before .loop .inv in
+    let f = c .before .before .before .fill .ensures in
+    let n = c .before .before .before .before .before .choose .ensures (c .before .before .before .before .before .before .if1 .left) in
+    (rw (f .0 ∙ i .1) (c .before .before .before .before .before .before .before .before .before .before .before .before .pre .0), f .2, i .3, n .0, n .1)
 
 add-i : tie.Need-add-i Inv-loop μ-loop
 add-i c = omega arith
@@ -48,9 +54,9 @@ loop-less c = omega arith
 
 loop-again : tie.Need-loop-again Inv-loop μ-loop
 loop-again c =
-    let i = c .before .before .before .before .before .before .before .before .loop .inv in
-    let t = c .before .before .try-at .ensures in
-    (omega arith, t .0 ∙ i .1, t .1, t .2 .bracket)
+    let i = c .before .before .before .before .before .before .before .before .before .before .loop .inv in
+    let f = c .before .before .before .before .fill .ensures in
+    (omega (arith, c .before .before .before .before .before .before .before .before .before .loop-test .taken), f .0 ∙ i .1, f .1, c .narrowed .ensures .bracket)
 
 same-length-2 : tie.Need-same-length-2 Inv-loop μ-loop
 same-length-2 c = c .before .loop .inv .1
@@ -70,7 +76,8 @@ jump-spec =
     same-length
     returns
     choose-requires
-    try-at-requires
+    fill-requires
+    narrowed-requires
     add-i
     loop-less
     loop-again

@@ -1,5 +1,6 @@
--- `least_threshold` refuses where there is no room; else the words are laid, the bracket starts with all thresholds, and halving decides it.
+-- `least_threshold` refuses where there is no room; else the words are laid, the bracket starts with all thresholds, and halving decides it; the table of the answer is filled last.
 use mathlib.Core.Path.{refl, _∙_}
+use native.Mathlib.Omega.{arith}
 use borrow.Author.Needs.{needs}
 use borrow.Author.Tests.{not-true, not-false}
 use Rattle.modules.specs.Model.{chainOf}
@@ -40,20 +41,34 @@ halve-requires c κs =
     let j = c .before .before .before .jump .ensures in
     (rw (j .0 ∙ l .0) room, j .1, j .2)
 
-zero-requires : tie.Need-zero-requires
-zero-requires c κs = search needs
-
 same-length : tie.Need-same-length
 same-length c = search needs
 
 returns-2 : tie.Need-returns-2
 returns-2 c =
-    let room = c .before .before .before .before .before .before .before .before .before .before .before .before .before .before .before .before .before .before .has-room .ensures .0 (not-false _ (c .before .before .before .before .before .before .before .before .before .before .before .before .before .before .before .before .before .if1 .left)) in
-    let a = c .before .before .before .before .before .before .before .before .before .before .before .before .before .before .before .before .before .before .before .before .before .args in
-    let l = c .before .before .before .before .before .before .before .before .before .before .before .before .before .before .before .lay .ensures in
-    let j = c .before .before .before .before .before .before .before .before .before .before .jump .ensures in
-    let r = c .before .before .before .before .before .before .halve .ensures in
-    searched-decided (chainOf (a .costs .now) (a .board)) (a .board) (a .work .now) _ room (r .1) (r .0 ∙ j .0 ∙ l .0) (c .before .before .zero .ensures)
+    let room = c .before .before .before .before .before .before .before .before .before .before .before .before .before .before .before .has-room .ensures .0 (not-false _ (c .before .before .before .before .before .before .before .before .before .before .before .before .before .before .if1 .left)) in
+    let a = c .before .before .before .before .before .before .before .before .before .before .before .before .before .before .before .before .before .before .args in
+    let r = c .before .before .before .halve .ensures in
+    searched-decided (chainOf (a .costs .now) (a .board)) (a .board) (a .work .now) room (r .2) (r .0 ∙ c .before .before .before .before .before .before .before .jump .ensures .0 ∙ c .before .before .before .before .before .before .before .before .before .before .before .before .lay .ensures .0) (r .1)
+    (λ h. absurd (omega (arith, c .if2 .taken)))
+
+fill-requires : tie.Need-fill-requires
+fill-requires c κs =
+    let room = c .before .before .before .before .before .before .before .before .before .before .before .before .before .before .before .before .has-room .ensures .0 (not-false _ (c .before .before .before .before .before .before .before .before .before .before .before .before .before .before .before .if1 .left)) in
+    let r = c .before .before .before .before .halve .ensures in
+    (rw (r .0 ∙ c .before .before .before .before .before .before .before .before .jump .ensures .0 ∙ c .before .before .before .before .before .before .before .before .before .before .before .before .before .lay .ensures .0) room, c .before .if2 .left, r .1)
+
+same-length-2 : tie.Need-same-length-2
+same-length-2 c = search needs
+
+returns-3 : tie.Need-returns-3
+returns-3 c =
+    let room = c .before .before .before .before .before .before .before .before .before .before .before .before .before .before .before .before .before .before .before .has-room .ensures .0 (not-false _ (c .before .before .before .before .before .before .before .before .before .before .before .before .before .before .before .before .before .before .if1 .left)) in
+    let a = c .before .before .before .before .before .before .before .before .before .before .before .before .before .before .before .before .before .before .before .before .before .before .args in
+    let r = c .before .before .before .before .before .before .before .halve .ensures in
+    let f = c .before .before .fill .ensures in
+    searched-decided (chainOf (a .costs .now) (a .board)) (a .board) (a .work .now) room (r .2) (f .0 ∙ r .0 ∙ c .before .before .before .before .before .before .before .before .before .before .before .jump .ensures .0 ∙ c .before .before .before .before .before .before .before .before .before .before .before .before .before .before .before .before .lay .ensures .0) (f .1)
+    (λ h. f .2)
 
 pub least-threshold-spec : {M : Type 1} → statement M
 least-threshold-spec =
@@ -66,6 +81,8 @@ least-threshold-spec =
     start-requires
     jump-requires
     halve-requires
-    zero-requires
     same-length
-    returns-2)
+    returns-2
+    fill-requires
+    same-length-2
+    returns-3)
