@@ -271,10 +271,9 @@ fn print_timetables() {
 }
 
 const NOTES: &str = "\
-Reading the file is included, and so is the clearing of buffers: library and threshold clear the whole work area of 16,384
-words twice, when the least threshold is found and at the end. threshold is the library's search in Rust; paper finds the
-bottleneck only, in tables of its own, megabytes at 32 cores; every tries all plans. The files of three tasks allow no longer
-module; two of them have no plan: a search is one slack table, or three.";
+Reading the file is included, and so is the clearing of the whole work area of 16,384 words at the end. threshold is the
+library's search in Rust; paper finds the bottleneck only, in tables of its own, megabytes at 32 cores; every tries all
+plans. The files of three tasks allow no longer module; two of them have no plan: a search is one slack table, or three.";
 
 fn main() {
     println!("Best plan: medians of {RUNS} runs in milliseconds, one run of each search in turn.");

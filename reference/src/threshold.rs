@@ -4,7 +4,7 @@
 //! equal or at least 1/1024 apart, so all plans within the least n that some plan is within have equal bottlenecks. Whether some plan
 //! is within an n, the slack table of n says; where there is one, it is read off and judged, and the search goes on below its own
 //! bottleneck. A core weighs more than any single-block time, so of the plans within the least n the lightest has fewest cores, and
-//! least time among those.
+//! least time among those. By the slack table of the least n only modules of plans of the fewest cores are weighed.
 
 mod guess;
 mod hunt;
@@ -14,14 +14,16 @@ pub(crate) mod lookup;
 pub(crate) mod records;
 mod sketch;
 mod slack;
-mod table;
+mod sparing;
 mod walk;
+mod weights;
 mod words;
 
 use crate::answer::{Answer, Refusal, answer};
 use crate::every::WORK_WORDS;
 use crate::plan::{self, Module, PLAN_BYTES};
 use lookup::Lookup;
+use sparing::Sparing;
 
 pub use hunt::{JUMPS, Least, MOST_TRIES};
 
@@ -46,7 +48,7 @@ fn planned(costs: &[u8], plan: &mut [u8], work: &mut [u32]) -> Result<Answer, Re
         return Err(Refusal::new(8));
     }
     let costs = Lookup::new(costs);
-    let found = search(costs, work);
+    let found = search(&costs, work);
     work.fill(0);
     let modules = found.ok_or(Refusal::new(9))?;
     plan[..PLAN_BYTES].copy_from_slice(&plan::encode(&modules));
@@ -54,14 +56,16 @@ fn planned(costs: &[u8], plan: &mut [u8], work: &mut [u32]) -> Result<Answer, Re
 }
 
 /// The best plan, or none if no plan keeps the rules.
-fn search(costs: Lookup, work: &mut [u32]) -> Option<Vec<Module>> {
-    let n = hunt::least_threshold(&costs, work).threshold;
+fn search(costs: &Lookup, work: &mut [u32]) -> Option<Vec<Module>> {
+    let n = hunt::least_threshold(costs, work).threshold;
     if TOP < n {
         return None;
     }
-    let costs = costs.with_reaches();
-    let weight = weight_within(&costs, work, n);
-    Some(walk::lay_path(&costs, work, n, weight))
+    let fewest = slack::fewest_cores(work, costs.cores);
+    let sparing = Sparing { costs, n };
+    sparing.mark(work, fewest);
+    let weight = sparing.weigh(work, fewest);
+    Some(walk::lay_path(sparing, work, fewest, weight))
 }
 
 /// The least threshold of the plans of an accepted file.
@@ -72,15 +76,4 @@ pub fn least_threshold(costs: &[u8]) -> Least {
 /// The least threshold that a response of so many copies is within.
 fn threshold_of(response: u64, copies: u64) -> u64 {
     (response * GRAIN).div_ceil(copies)
-}
-
-/// Heavier than every plan on the board: one core too many.
-fn none(costs: &Lookup) -> u32 {
-    UNIT * (costs.cores as u32 + 1)
-}
-
-/// The table of the threshold n, and the least weight of a plan within n.
-fn weight_within(costs: &Lookup, work: &mut [u32], n: u64) -> u32 {
-    table::fill(costs, work, n);
-    table::least_weight(costs, work, n)
 }

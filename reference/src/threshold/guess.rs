@@ -25,7 +25,7 @@ pub struct Hunt {
 
 /// The threshold of the module of q cores by itself, in as many copies as the board has room for; TOP + 1 where it breaks a rule.
 fn alone(costs: &Lookup, first: usize, last: usize, q: usize) -> u64 {
-    if !costs.rules_met(first, last, 1, q) {
+    if !costs.rules_met(first, last, q) {
         return TOP + 1;
     }
     let copies = if costs.copies_allowed(first, last) {

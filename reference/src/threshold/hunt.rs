@@ -4,7 +4,7 @@
 use super::guess::Hunt;
 use super::lookup::Lookup;
 use super::sketch::{self, Found};
-use super::{laid, slack};
+use super::{TOP, laid, slack};
 
 /// The most tries that are guessed; after them each halves the bracket.
 pub const JUMPS: usize = 24;
@@ -51,7 +51,8 @@ fn try_at(costs: &Lookup, work: &mut [u32], n: u64, hunt: Hunt) -> Hunt {
     hunt.found(n, sketch::some_plan(costs, work, n))
 }
 
-/// Searches in words that may hold anything and are zero afterwards.
+/// Searches in words that may hold anything. Afterwards the tasks are laid in them, and the slack table of the threshold where some
+/// plan is within it.
 pub fn least_threshold(costs: &Lookup, work: &mut [u32]) -> Least {
     laid::lay(costs, work);
     let mut hunt = Hunt::start(costs);
@@ -65,9 +66,9 @@ pub fn least_threshold(costs: &Lookup, work: &mut [u32]) -> Least {
         hunt = try_at(costs, work, n, hunt);
         tries += 1;
     }
-    work.fill(0);
-    Least {
-        threshold: hunt.lo,
-        tries,
+    let threshold = hunt.lo;
+    if threshold <= TOP {
+        slack::fill(costs, work, threshold);
     }
+    Least { threshold, tries }
 }

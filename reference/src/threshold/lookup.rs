@@ -1,7 +1,6 @@
-//! Costs looked up in the bytes of an accepted file, and the sums over a module's tasks, added up anew at each call; and the
-//! reaches, worked out once where they are asked for.
+//! Costs looked up in the bytes of an accepted file, and the sums over a module's tasks, added up anew at each call.
 
-use crate::costs::{DISPATCH, MOST_TASKS, RECORD_BYTES};
+use crate::costs::{DISPATCH, RECORD_BYTES};
 use crate::plan::Module;
 
 #[derive(Clone, Copy)]
@@ -12,8 +11,6 @@ pub struct Lookup<'a> {
     pub capacity: u64,
     /// D of document 02, M-106.
     pub dispatch: u64,
-    /// The reach of each first task (document 02, M-102): at t that of task t + 1. All 0 where they are not asked for.
-    reaches: [u8; MOST_TASKS],
 }
 
 /// Tasks and cores count from 1; 0 cores stand for no module.
@@ -25,44 +22,9 @@ impl<'a> Lookup<'a> {
             cores: bytes[2].into(),
             capacity: 0,
             dispatch: bytes[DISPATCH].into(),
-            reaches: [0; MOST_TASKS],
         };
         costs.capacity = costs.value(0);
         costs
-    }
-
-    pub fn with_reaches(mut self) -> Lookup<'a> {
-        for t in 0..self.tasks {
-            self.reaches[t] = self.farthest(t + 1) as u8;
-        }
-        self
-    }
-
-    /// The reach of the task after task t, of which the chain has one.
-    pub fn reach_after(&self, t: usize) -> usize {
-        self.reaches[t].into()
-    }
-
-    /// The last task of the longest module from this one on that needs at most the board's cores, 0 if there is none: the first
-    /// that needs more ends the loop.
-    fn farthest(&self, first: usize) -> usize {
-        let mut end = 0;
-        for last in first..=self.tasks {
-            if self.fewest_cores(first, last) > self.cores {
-                return end;
-            }
-            end = last;
-        }
-        end
-    }
-
-    /// The fewest cores that the module's memory allows, one more than the board has where none of its cores do.
-    fn fewest_cores(&self, first: usize, last: usize) -> usize {
-        let mut p = 1;
-        while p <= self.cores && !self.memory_fits(first, last, p) {
-            p += 1;
-        }
-        p
     }
 
     /// The value of a record, counted from 0.
@@ -120,7 +82,7 @@ impl<'a> Lookup<'a> {
 
     /// What the module adds to a single-block time before one of q cores, 0 for none: its body, what it sends, and what it takes to
     /// hand out to its copies.
-    pub fn passage(&self, module: Module, q: usize) -> u64 {
+    fn passage(&self, module: Module, q: usize) -> u64 {
         let body = self.body(module.first, module.last, module.cores);
         let sent = self.transfer(module.last, module.cores, q);
         body + sent + self.dispatch_to(module.copies)
@@ -153,11 +115,8 @@ impl<'a> Lookup<'a> {
         marks == 0
     }
 
-    /// Whether the module may have r copies of p cores.
-    pub fn rules_met(&self, first: usize, last: usize, r: usize, p: usize) -> bool {
-        if r > 1 && !self.copies_allowed(first, last) {
-            return false;
-        }
+    /// Whether one copy of p cores keeps the rules.
+    pub fn rules_met(&self, first: usize, last: usize, p: usize) -> bool {
         if !self.memory_fits(first, last, p) {
             return false;
         }
@@ -167,31 +126,5 @@ impl<'a> Lookup<'a> {
             }
         }
         true
-    }
-}
-
-#[cfg(test)]
-mod tests {
-    use super::*;
-    use crate::cases::{self, Case, KINDS, Kind};
-    use crate::costs::{self, MOST_CORES};
-    use crate::reach;
-
-    /// A reach that is too great would change no answer of the search.
-    #[test]
-    fn reaches_are_the_second_planners() {
-        let small = (0..100 * KINDS.len() as u64).map(cases::small);
-        let large = (0..80).map(|seed| {
-            let kind = [Kind::Reaches, Kind::Shares][seed as usize % 2];
-            cases::sized(kind, MOST_TASKS, MOST_CORES, seed)
-        });
-        for Case { seed, costs, .. } in small.chain(large) {
-            let chain = costs::read(&costs).expect("an accepted file");
-            let twin = Lookup::new(&costs).with_reaches();
-            for t in 0..chain.tasks {
-                let due = reach::reach_of(&chain, t + 1);
-                assert_eq!(twin.reach_after(t), due, "seed {seed}, task {}", t + 1);
-            }
-        }
     }
 }

@@ -1,11 +1,20 @@
-//! Whether a file is accepted: its first record, then the count and one walk over the records. Nothing is allocated.
+//! Whether a file is accepted: its first record, then the count and one walk over the records, kind by kind. Nothing is allocated.
 
 use crate::answer::Refusal;
-use crate::costs::{Key, MOST_CORES, MOST_TASKS, MOST_VALUE, RECORD_BYTES};
+use crate::costs::{MOST_CORES, MOST_TASKS, MOST_VALUE, RECORD_BYTES};
+
+/// By how much the word of a key grows with a, and with b.
+const STEP_A: u32 = 1 << 16;
+const STEP_B: u32 = 1 << 24;
 
 /// Refusals 1 to 6.
 pub fn test(costs: &[u8]) -> Result<(), Refusal> {
-    sizes(costs, count).map(|_| ())
+    let (tasks, cores) = sizes(costs, count)?;
+    let pairs = tasks - 1;
+    let executed = tasks + tasks * cores;
+    rows(costs, tasks, 3, tasks, cores)?;
+    rows(costs, executed, 4, pairs, cores)?;
+    squares(costs, executed + pairs * cores, pairs, cores)
 }
 
 /// How many records the costs of k tasks on P cores are.
@@ -13,7 +22,8 @@ pub fn count(tasks: usize, cores: usize) -> usize {
     1 + tasks + (2 * tasks - 1) * cores + (tasks - 1) * cores * cores
 }
 
-/// k and P of records of which so many of the costs' first are due, or refusals 1 to 6.
+/// k and P of records of which so many of the costs' first are due, all of kind 2 among them; or refusals 1 to 4, or 5 or 6 in
+/// kind 2.
 pub fn sizes(records: &[u8], due_of: fn(usize, usize) -> usize) -> Result<(usize, usize), Refusal> {
     if records.len() < RECORD_BYTES || !records.len().is_multiple_of(RECORD_BYTES) {
         return Err(Refusal::new(1));
@@ -29,63 +39,96 @@ pub fn sizes(records: &[u8], due_of: fn(usize, usize) -> usize) -> Result<(usize
     if records.len() != due_of(tasks, cores) * RECORD_BYTES {
         return Err(Refusal::new(4));
     }
-    for (n, record) in records.chunks_exact(RECORD_BYTES).enumerate().skip(1) {
-        if !key_meets(record, due(tasks, cores, n)) {
-            return Err(Refusal::at(5, n + 1));
+    task_records(records, tasks)?;
+    Ok((tasks, cores))
+}
+
+/// Refusals 5 and 6 of the records of kind 2, one for each task. Their a and b, the flag and the limit, are not part of the key.
+fn task_records(records: &[u8], tasks: usize) -> Result<(), Refusal> {
+    for task in 1..=tasks {
+        let record = record_at(records, task);
+        if record[0] != 2 || usize::from(record[1]) != task {
+            return Err(Refusal::at(5, task + 1));
         }
-        if !value_meets(record) {
-            return Err(Refusal::at(6, n + 1));
+        let in_range = record[2] <= 1 && usize::from(record[3]) <= MOST_CORES;
+        if !in_range || MOST_VALUE < value_of(record) {
+            return Err(Refusal::at(6, task + 1));
         }
     }
-    Ok((tasks, cores))
+    Ok(())
+}
+
+/// Refusals 5 and 6 of the records of kind 3 or 4 after record `before`: a row for each task, in which a goes from 1 to P.
+fn rows(costs: &[u8], before: usize, kind: u8, tasks: usize, cores: usize) -> Result<(), Refusal> {
+    let mut done = before;
+    for task in 1..=tasks {
+        let first = word(kind, task, 1, 0);
+        run(costs, done, cores, first, STEP_A)?;
+        done += cores;
+    }
+    Ok(())
+}
+
+/// Refusals 5 and 6 of the records of kind 5 after record `before`: a square for each task.
+fn squares(costs: &[u8], before: usize, tasks: usize, cores: usize) -> Result<(), Refusal> {
+    let mut done = before;
+    for task in 1..=tasks {
+        square(costs, done, task, cores)?;
+        done += cores * cores;
+    }
+    Ok(())
+}
+
+/// Refusals 5 and 6 of the records of kind 5 and one task after record `before`: a line for each a, in which b goes from 1 to P.
+fn square(costs: &[u8], before: usize, task: usize, cores: usize) -> Result<(), Refusal> {
+    let mut done = before;
+    for a in 1..=cores {
+        let first = word(5, task, a, 1);
+        run(costs, done, cores, first, STEP_B)?;
+        done += cores;
+    }
+    Ok(())
+}
+
+/// Refusals 5 and 6 of the P records after record `before`, of which the first has that key, and each next one a step more.
+fn run(costs: &[u8], before: usize, cores: usize, first: u32, step: u32) -> Result<(), Refusal> {
+    let records = &costs[(before + 1) * RECORD_BYTES..][..cores * RECORD_BYTES];
+    for i in 0..cores {
+        let record = record_at(records, i);
+        let place = before + i + 2;
+        if key_of(record) != first + i as u32 * step {
+            return Err(Refusal::at(5, place));
+        }
+        if MOST_VALUE < value_of(record) {
+            return Err(Refusal::at(6, place));
+        }
+    }
+    Ok(())
+}
+
+/// Record n, counted from 0.
+fn record_at(records: &[u8], n: usize) -> &[u8] {
+    &records[n * RECORD_BYTES..][..RECORD_BYTES]
+}
+
+/// The four bytes of a key as one number.
+fn word(kind: u8, task: usize, a: usize, b: usize) -> u32 {
+    u32::from_le_bytes([kind, task as u8, a as u8, b as u8])
+}
+
+fn key_of(record: &[u8]) -> u32 {
+    u32::from_le_bytes([record[0], record[1], record[2], record[3]])
 }
 
 fn value_of(record: &[u8]) -> u32 {
     u32::from_le_bytes([record[4], record[5], record[6], record[7]])
 }
 
-/// The key that is due in record n, counted from 0, of all but the first.
-fn due(tasks: usize, cores: usize, n: usize) -> Key {
-    let key = |kind, task, a, b| Key {
-        kind,
-        task: task as u8,
-        a: a as u8,
-        b: b as u8,
-    };
-    let mut i = n - 1;
-    if i < tasks {
-        return key(2, n, 0, 0);
-    }
-    i -= tasks;
-    if i < tasks * cores {
-        return key(3, i / cores + 1, i % cores + 1, 0);
-    }
-    i -= tasks * cores;
-    if i < (tasks - 1) * cores {
-        return key(4, i / cores + 1, i % cores + 1, 0);
-    }
-    i -= (tasks - 1) * cores;
-    let (pair, cell) = (i / (cores * cores), i % (cores * cores));
-    key(5, pair + 1, cell / cores + 1, cell % cores + 1)
-}
-
-/// Whether the record has the key; a and b of kind 2 are not part of it.
-fn key_meets(record: &[u8], key: Key) -> bool {
-    let is_due = record[0] == key.kind && record[1] == key.task;
-    is_due && (key.kind == 2 || (record[2] == key.a && record[3] == key.b))
-}
-
-/// Whether the value is in range and, in kind 2, the flag and the limit too.
-fn value_meets(record: &[u8]) -> bool {
-    let in_range = record[0] != 2 || (record[2] <= 1 && usize::from(record[3]) <= MOST_CORES);
-    in_range && value_of(record) <= MOST_VALUE
-}
-
 #[cfg(test)]
 mod tests {
     use super::*;
     use crate::cases::{self, KINDS};
-    use crate::costs;
+    use crate::costs::{self, Chain};
     use crate::damage::{self, DAMAGES};
 
     #[test]
@@ -97,6 +140,40 @@ mod tests {
                 let (costs, _) = damage::small(seed, damage);
                 let due = costs::read(&costs).map(|_| ());
                 assert_eq!(test(&costs), due, "seed {seed}, {damage:?}");
+            }
+        }
+    }
+
+    /// Boards of one task, one core and several of both: whichever byte of the file, or of its first part, is another one.
+    #[test]
+    fn refuses_each_changed_byte_as_the_reader() {
+        for (tasks, cores) in [(1, 1), (1, 4), (4, 1), (2, 2), (3, 4), (5, 3)] {
+            let mut costs = costs::write(&cases::constant(tasks, cores, MOST_VALUE));
+            for i in 0..costs.len() {
+                for flip in 1..=255 {
+                    costs[i] ^= flip;
+                    assert_as_the_reader(&costs, tasks);
+                    costs[i] ^= flip;
+                }
+            }
+        }
+    }
+
+    fn assert_as_the_reader(costs: &[u8], tasks: usize) {
+        let board = |chain: Chain| (chain.tasks, chain.cores);
+        let due = costs::read(costs).map(|_| ());
+        assert_eq!(test(costs), due, "{costs:?}");
+        let head = &costs[..(1 + tasks) * RECORD_BYTES];
+        let due = costs::read_head(head).map(board);
+        assert_eq!(sizes(head, |tasks, _| 1 + tasks), due, "{head:?}");
+    }
+
+    #[test]
+    fn accepts_boards_of_all_sizes() {
+        for tasks in 1..=MOST_TASKS {
+            for cores in 1..=MOST_CORES {
+                let costs = costs::write(&cases::constant(tasks, cores, MOST_VALUE));
+                assert_eq!(test(&costs), Ok(()), "{tasks} tasks, {cores} cores");
             }
         }
     }

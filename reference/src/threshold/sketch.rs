@@ -99,7 +99,7 @@ impl Within<'_> {
                 copies: 1,
                 cores: rest.q,
             };
-            if !self.costs.rules_met(module.first, last, 1, rest.q) {
+            if !self.costs.rules_met(module.first, last, rest.q) {
                 return None;
             }
             let taken = self.costs.body(module.first, last, rest.q) + rest.received;

@@ -1,130 +1,129 @@
-//! The walk: module by module, the first in module order after which the rest still fits in what is left.
+//! The walk over the weights: module by module, the first in module order after which the rest still fits in what is left.
 
-use super::lookup::Lookup;
-use super::table;
-use super::{GRAIN, UNIT};
+use super::sparing::{Place, Sparing, Stretch};
+use super::words::{SIDE, cell};
 use crate::plan::Module;
 
-/// The threshold and its table.
-struct Within<'a> {
-    costs: &'a Lookup<'a>,
+/// The weights in the words, and how far the walk has come: to task t and a module of s cores. By the cores of the next module `rooms`
+/// is what it and all after it may weigh, plus one, and 0 where it cannot come.
+struct Walk<'a> {
+    sparing: Sparing<'a>,
     work: &'a [u32],
-    n: u64,
+    s: usize,
+    t: usize,
+    rooms: [u32; SIDE],
 }
 
-/// The module that the walk has passed, the cores of the one before it, and what was left before its own price, plus one.
-#[derive(Clone, Copy)]
-struct Passed {
-    before: usize,
-    module: Module,
-    left: u32,
-}
-
-impl Within<'_> {
-    /// Whether the module keeps the rules, is within n and has room, between modules of s and q cores.
-    fn fits(&self, s: usize, module: Module, q: usize) -> bool {
-        let Module {
-            first,
-            last,
-            copies,
-            cores,
-        } = module;
-        if self.costs.cores < s + copies * cores + q {
-            return false;
-        }
-        if !self.costs.rules_met(first, last, copies, cores) {
-            return false;
-        }
-        self.costs.response(s, module, q) * GRAIN <= self.n * copies as u64
+impl Walk<'_> {
+    fn tasks(&self) -> usize {
+        self.sparing.costs.tasks
     }
 
-    /// What the module weighs before one of q cores: its cores, and what it adds to the single-block time. The board has as many
-    /// cores, so that this fits 32 bits.
-    fn price(&self, module: Module, q: usize) -> u32 {
-        let ticks = self.costs.passage(module, q);
-        (module.copies * module.cores) as u32 * UNIT + ticks as u32
+    fn cores(&self) -> usize {
+        self.sparing.costs.cores
     }
 
-    /// What is left for a module of q cores and all after it, plus one; 0 where the module that is passed cannot stand before it.
-    fn room(&self, passed: Passed, q: usize) -> u32 {
-        if passed.module.last == 0 {
-            return passed.left;
+    /// Where the next module begins if it has p cores.
+    fn place(&self, p: usize) -> Place {
+        self.sparing.place(self.work, self.s, self.t, p)
+    }
+
+    /// The module from there to task l.
+    fn stretch(&self, place: Place, l: usize) -> Stretch {
+        let mut stretch = place.stretch();
+        for _ in place.t + 1..=l {
+            stretch = self.sparing.longer(self.work, place, stretch);
         }
-        if !self.fits(passed.before, passed.module, q) {
+        stretch
+    }
+
+    /// What r copies leave for a module of q cores, 0 for none, and all after it, plus one; 0 where they do not spare cores.
+    fn room(&self, place: Place, stretch: Stretch, r: usize, q: usize) -> u32 {
+        let sent = self.sparing.costs.transfer(stretch.l, place.q, q);
+        if !self.sparing.spares(self.work, place, stretch, (r, q), sent) {
             return 0;
         }
-        passed.left.saturating_sub(self.price(passed.module, q))
+        let price = self.sparing.price(place, stretch, r, sent);
+        self.rooms[place.q].saturating_sub(price)
     }
 
-    /// Whether the module, in this room and before one of q cores, fits and leaves enough for the lightest rest.
-    fn goes_on(&self, s: usize, room: u32, module: Module, q: usize) -> bool {
-        let rest = table::read(self.costs, self.work, module.cores, module.last, q);
-        let cores = (module.copies * module.cores) as u64;
-        if u64::from(room) <= cores * u64::from(UNIT) + u64::from(rest) {
-            return false;
+    /// Whether r copies leave enough for the lightest rest: for none behind the last task, else for one in a place that is marked.
+    fn goes_on(&self, place: Place, stretch: Stretch, r: usize) -> bool {
+        if stretch.l == self.tasks() {
+            return self.room(place, stretch, r, 0) != 0;
         }
-        if room <= self.price(module, q) + rest {
-            return false;
-        }
-        self.fits(s, module, q)
-    }
-
-    /// Whether the module may come next: it goes on with some cores of the one after it.
-    fn may_come(&self, passed: Passed, module: Module) -> bool {
-        let room = self.room(passed, module.cores);
-        for q in 0..=self.costs.cores {
-            if self.goes_on(passed.module.cores, room, module, q) {
+        for q in 1..=place.left.saturating_sub(r * place.q) {
+            let rest = self.work[cell(self.cores(), stretch.l, place.q, q)];
+            if rest != 0 && rest < self.room(place, stretch, r, q) {
                 return true;
             }
         }
         false
     }
 
-    /// The first module in module order that may come next; there is one, and it ends within its reach.
-    fn next_module(&self, passed: Passed) -> Module {
-        let first = passed.module.last + 1;
-        for last in first..=self.costs.reach_after(passed.module.last) {
-            for copies in 1..=self.costs.cores {
-                for cores in 1..=self.costs.cores {
-                    let module = Module {
-                        first,
-                        last,
-                        copies,
-                        cores,
+    /// Whether r copies of p cores, up to task l, may come next.
+    fn may_come(&self, l: usize, r: usize, p: usize) -> bool {
+        if self.rooms[p] == 0 {
+            return false;
+        }
+        let place = self.place(p);
+        if place.reach(self.work) < l {
+            return false;
+        }
+        self.goes_on(place, self.stretch(place, l), r)
+    }
+
+    /// The first module in module order that may come next; there is one.
+    fn next_module(&self) -> Module {
+        for l in self.t + 1..=self.tasks() {
+            for r in 1..=self.cores() {
+                if let Some(p) = (1..=self.cores() / r).find(|&p| self.may_come(l, r, p)) {
+                    return Module {
+                        first: self.t + 1,
+                        last: l,
+                        copies: r,
+                        cores: p,
                     };
-                    if self.may_come(passed, module) {
-                        return module;
-                    }
                 }
             }
         }
-        unreachable!("the table says that a module may come next");
+        unreachable!("the weights say that a module may come next");
+    }
+
+    /// Goes past the module.
+    fn pass(&mut self, module: Module) {
+        let place = self.place(module.cores);
+        let stretch = self.stretch(place, module.last);
+        let mut rooms = [0; SIDE];
+        if module.last < self.tasks() {
+            for (q, room) in rooms.iter_mut().enumerate().take(self.cores() + 1).skip(1) {
+                *room = self.room(place, stretch, module.copies, q);
+            }
+        }
+        (self.s, self.t, self.rooms) = (module.cores, module.last, rooms);
     }
 }
 
-/// The first plan in module order of this weight within n, from the table of n.
-pub fn lay_path(costs: &Lookup, work: &[u32], n: u64, weight: u32) -> Vec<Module> {
-    let within = Within { costs, work, n };
-    let mut path = Vec::new();
-    let mut passed = Passed {
-        before: 0,
-        module: Module {
-            first: 0,
-            last: 0,
-            copies: 0,
-            cores: 0,
-        },
-        left: weight + 1,
+/// The first plan in module order of the least weight, which has so many cores, by the weights in the words.
+pub fn lay_path(sparing: Sparing, work: &[u32], fewest: usize, weight: u32) -> Vec<Module> {
+    let mut rooms = [0; SIDE];
+    for (q, room) in rooms.iter_mut().enumerate().take(fewest + 1).skip(1) {
+        if sparing.start(work, q, fewest).is_some() {
+            *room = weight + 1;
+        }
+    }
+    let mut walk = Walk {
+        sparing,
+        work,
+        s: 0,
+        t: 0,
+        rooms,
     };
-    while passed.module.last < costs.tasks {
-        let module = within.next_module(passed);
-        let room = within.room(passed, module.cores);
+    let mut path = Vec::new();
+    while walk.t < walk.tasks() {
+        let module = walk.next_module();
+        walk.pass(module);
         path.push(module);
-        passed = Passed {
-            before: passed.module.cores,
-            module,
-            left: room,
-        };
     }
     path
 }

@@ -1,4 +1,4 @@
-//! Where the tables of a search for the least threshold stand in the lent words.
+//! Where the tables of a search stand in the lent words.
 
 use crate::costs::{MOST_CORES, MOST_TASKS};
 use crate::every::WORK_WORDS;
@@ -20,4 +20,10 @@ const _: () = assert!(WORDS == 14_256 && WORDS <= WORK_WORDS);
 /// The slacks of the rests after task t whose first module has q cores, by their cores in all.
 pub fn slacks(work: &[u32], t: usize, q: usize) -> &[u32] {
     &work[t * SQUARE + q * SIDE..][..SIDE]
+}
+
+/// Where the weight of the rests between a module of s cores that ends with task t and one of q stands, s + q at most the board's:
+/// in the square of t where no slack stands, since a rest has no fewer cores than its first module.
+pub fn cell(cores: usize, t: usize, s: usize, q: usize) -> usize {
+    t * SQUARE + (cores + 1 - q) * SIDE + s - 1
 }
