@@ -9,10 +9,10 @@
  *  - an empty slice has count 0; its pointer is not looked at and may be any.
  *
  * What a target without an operating system has to offer, measured on x86-64:
- *  - some 35 KB for code; the library has no data and no bss;
+ *  - some 36 KB for code; the library has no data and no bss;
  *  - `memset`, the only symbol that it needs from outside;
- *  - beside what is lent, stack for a call: some 700 bytes to judge, 800 for a single-block time, 1,100 for a timetable, 1,500 for the
- *    greedy plan, 2,000 for the best, 300 to fill in costs or for a reach;
+ *  - beside what is lent, stack for a call: some 700 bytes to judge or for a single-block time, 1,000 for a timetable, 1,500 for the
+ *    greedy plan, 2,000 for the best, 300 to 400 to fill in costs or for a reach;
  *  - SSE registers, and the red zone of the System V ABI: interrupts keep off the 128 bytes below the stack pointer.
  * Nothing is kept between calls, so calls from several threads, each on its own buffers, are safe. Held by tests/footprint
  * (the first two; code and constants to 36 KiB), tests/stack.c (a call to 2 KiB of stack) and tests/threads.c (two threads).

@@ -1,6 +1,5 @@
--- One module of a plan of the fewest cores, as the planner looks at it: the fewest copies that do by one division are the fewest that may come, what
--- they weigh fits a word and a half, and last tasks past those with which one copy keeps the rules add nothing. By the laws of the search at the
--- problem of a chain. Assumes nothing.
+-- One module of a plan of the fewest cores, as the planner looks at it: the fewest copies that do by one division are the fewest that may come, and what
+-- they weigh is the least over the copies. By the laws of the search at the problem of a chain. Assumes nothing.
 use mathlib.Core.Path.{_≡_, sym, subst, _∙_}
 use mathlib.Core.Bool.{Bool, true, false, cond, _&&_, _||_}
 use mathlib.Core.Logic.{⊎-elim}

@@ -57,7 +57,7 @@ module _ (s w work : List ℕ) (began : begins s w work ≡ true) where
 -- best ones
 
 -- where r copies fit at the threshold n, so do the fewest, which one division finds: they are the r copies, or have fewer copies and cores and weigh
--- less. So at p cores of a copy the least over r is theirs (`search` `overCopies-at`) and no tie is left; between plans that differ in p too, module
+-- less. So at p cores of a copy the least over r is theirs (`search` `overCopies-first`) and no tie is left; between plans that differ in p too, module
 -- order still puts the smaller r first (`fills-best`)
 pub copies-best : (c : Chain) (n s t l r p q : ℕ) → fitsAt (problem c) n s t l r p q ≡ true
     → (let f = fewest (copiesAllowed c (t + 1) l 2) (response c s (t + 1) l 1 p q * grain) (response c s (t + 1) l 2 p q * grain) n in

@@ -10,5 +10,5 @@
 //   proofs/Best.antt     that plan beats every plan that keeps the rules
 //   proofs/Outcome.antt  so the answer is the best plan, or no plan keeps the rules; and its bottleneck is the least of all
 //   proofs/Tiers.antt    where the price is a unit for each core and a measure below it: cores decide, and then that measure
-// For the program's loops: proofs/Loops.antt, Cheapest.antt, Flat.antt and Fill.antt (one cell, the table), Steps.antt (the
-// walk).
+//   proofs/Sparing.antt  the first of the lightest plans within a threshold, found among modules of plans of the fewest cores
+// For the program's loops: proofs/Loops.antt and Cheapest.antt (one cell), Steps.antt (the walk).

@@ -13,5 +13,6 @@
 //   proofs/Chain.antt     `found-slack`: of a chain, some plan is within a threshold just if some first module leaves a slack
 //   proofs/Judged.antt    `judged-found`: a plan that keeps the rules is within the threshold of its bottleneck
 //   proofs/Instance.antt  the chain's plans, rules and bottlenecks are the problem's
+//   proofs/Enough.antt    `enough-tells`: the slack says just where there is a rest of so many cores
 // For the programs' loops: proofs/After.antt (one cell, over a module's last task), Cheapest.antt (a row of words from which the cheapest
 // transfers are read), Offers.antt (what copies leave), Growing.antt (a module that grows by a task), Greatest.antt.

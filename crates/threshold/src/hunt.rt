@@ -142,7 +142,7 @@ fn has_room(board: Board, words: usize) -> bool
 }
 
 // The least threshold that some plan is within, TOP + 1 where none is within TOP, or where the board is out of range or the words are too
-// few. The words hold its slack table afterwards, or are as they came in the last two cases.
+// few. Afterwards the words hold what is laid and, where some plan is within it, its slack table; in the last two cases they are as they came.
 pub fn least_threshold(costs: &[u8], board: Board, work: &mut [u32]) -> u64
     ensures { λ r. ⌜ Searched (chainOf (now (costs .entry)) board) board (now (work .entry)) (now (work .exit)) r ⌝ }
 {
