@@ -15,7 +15,7 @@
  *    greedy plan, 2,000 for the best, 300 to 400 to fill in costs or for a reach;
  *  - SSE registers, and the red zone of the System V ABI: interrupts keep off the 128 bytes below the stack pointer.
  * Nothing is kept between calls, so calls from several threads, each on its own buffers, are safe. Held by tests/footprint
- * (the first two; code and constants to 36 KiB), tests/stack.c (a call to 2 KiB of stack) and tests/threads.c (two threads).
+ * (the first two; code and constants to 37 KiB), tests/stack.c (a call to 2 KiB of stack) and tests/threads.c (two threads).
  */
 #ifndef ZOMBREKI_H
 #define ZOMBREKI_H

@@ -59,9 +59,9 @@ fn most_tasks_and_cores() {
 #[test]
 fn more_tries_than_are_guessed() {
     let files = [
-        (Kind::TightMemory, 177),
-        (Kind::Hidden, 5),
+        (Kind::NotReplicable, 163),
         (Kind::Hidden, 1_262),
+        (Kind::Limits, 658),
     ]
     .map(|(kind, seed)| cases::sized(kind, MOST_TASKS, MOST_CORES, seed));
     for case in &files {

@@ -63,6 +63,16 @@ fn raised(h: Hunt) -> u64
     h.lo
 }
 
+// Halfway from lo to the upper end, where that is more than a sixteenth away; else just below it.
+fn halfway(h: Hunt, lo: u64) -> u64
+    requires { ⌜ (lo ≤ h .hi) × (1 ≤ h .hi) × (h .hi ≤ topThreshold) ⌝ }
+{
+    if h.hi / 16 < h.hi - lo {
+        return (lo + h.hi) / 2;
+    }
+    h.hi - 1
+}
+
 // Once a plan is known: where it leaves cores, fewer ticks in proportion; else just below it, now and then halfway.
 fn go_on(h: Hunt, cores: u8) -> u64
     requires { ⌜ (h .lo < h .hi) × (h .hi ≤ topThreshold) ⌝ }
@@ -79,7 +89,7 @@ fn go_on(h: Hunt, cores: u8) -> u64
             return middle;
         }
         if h.misses == 1 {
-            return middle;
+            return halfway(h, lo);
         }
         return below;
     }

@@ -1,17 +1,7 @@
-pub mod Beginning
-pub mod Cells
-pub mod Coming
-pub mod Copies
-pub mod Fewest
-pub mod Fitting
-pub mod Laying
 pub mod Lending
-pub mod Lengthening
-pub mod Looking
 pub mod Optimal
 pub mod Outcomes
 pub mod Refusals
 pub mod Serving
-pub mod Sweeping
 pub mod Theorems
 pub mod Weighing

@@ -3,7 +3,7 @@
 use mathlib.Core.Path.{_≡_, ap, _∙_}
 use mathlib.Core.Bool.{true, false}
 use mathlib.Core.List.{List, _++_}
-use mathlib.Core.Logic.{⊎-elim}
+use mathlib.Core.Logic.{inl, ⊎-elim}
 use mathlib.Core.Option.{none, some}
 use Prim.Native.Nat.{ℕ, zero, suc, _≤_, _<_}
 use native.Mathlib.Nat.{le-refl}
@@ -14,7 +14,7 @@ use Rattle.records.specs.declared.Board.{Board}
 use Rattle.records.specs.declared.Reading.{Reading}
 use Rattle.records.specs.Costs.{readCosts}
 use Rattle.records.specs.Format.{IsCosts}
-use Rattle.records.proofs.Cases.{lt-or-le}
+use Rattle.records.proofs.Cases.{lt-or-le, true-not-false}
 use Rattle.records.proofs.Laws.{accepted-costs}
 use Rattle.modules.specs.Model.{chainOf}
 use Rattle.layout.specs.Layout.{planBytes, modulesOf, encodePlan}
@@ -35,8 +35,12 @@ use Rattle.slack.specs.Problem.{problem, topThreshold, SomeWithin, Sized, enoug
 use Rattle.slack.proofs.Splits.{feasible-found, found-feasible}
 use Rattle.slack.proofs.Enough.{enough-tells}
 use Rattle.threshold.specs.Threshold.{Decided}
-use Rattle.threshold.specs.Words.{Area, Laid, AllFilled}
-use Rattle.planners.specs.Search.{noPlan, Tabled, weightOn, lightOn, planOn, AllReached}
+use Rattle.offers.specs.Words.{Area}
+use Rattle.weights.specs.Cells.{noPlan, weightOn, lightOn}
+use Rattle.walk.specs.declared.first.Walked.{Walked}
+use Rattle.walk.specs.First.{WalkedTo}
+use Rattle.walk.specs.Walk.{planOn}
+use Rattle.planners.specs.Reached.{AllReached}
 use Rattle.planners.specs.Best.{workWords, isBetter, bestPlan, foundAnswer, foundBytes, begins, bestAnswer, bestBytes, bestWork}
 use Rattle.slack.proofs.Instance.{problem-priced, problem-small, keeps-rules}
 use Rattle.planners.proofs.Weighing.{problem-laws, better-decides, best-searched}
@@ -49,12 +53,6 @@ module _ (s : List ℕ) (b : Board) (costs : IsCosts s b) where
   -- the tables have room in the work area
   pub area : (w : List ℕ) → workWords ≤ length w → Area b w
   area w h = record { sized = sized; long = omega arith }
-
-  -- where some plan is within n, the search for it has left its table there
-  pub tabled : (w : List ℕ) {w′ : List ℕ} {n : ℕ} → workWords ≤ length w
-      → Decided (chainOf s b) n × (length w′ ≡ length w) × Laid (chainOf s b) w′ × (n ≤ topThreshold → AllFilled (chainOf s b) n w′) → n ≤ topThreshold
-      → Tabled (chainOf s b) b n w′
-  tabled w {w′} h found low = record { area = area w′ (omega (arith, found .1)); low = low; laid = found .2; slacks = found .3 low }
 
   -- a threshold that no plan is within is not feasible, and one that some plan is within is
   unfeasible : (m : ℕ) → (SomeWithin (chainOf s b) m → ⊥) → cap (problem (chainOf s b)) ≤ light (problem (chainOf s b)) m
@@ -96,15 +94,32 @@ module _ (s : List ℕ) (b : Board) (costs : IsCosts s b) where
     light-same =
         let c = chainOf s b in sparing-light (problem c) n (enoughOn c n) (problem-laws c (quick s b costs)) (enough-tells c n) feasible
 
-    pub light-some : {v : ℕ} → v ≡ lightOn (chainOf s b) n → v < noPlan (b .cores)
+    light-some : lightOn (chainOf s b) n < noPlan (b .cores)
     unfolding cap
-    light-some e = omega (arith, light-same)
+    light-some = omega (arith, light-same)
 
     plan-same : planOn (chainOf s b) n ≡ plan (problem (chainOf s b)) n
     plan-same =
         let c = chainOf s b in
         ap (λ (v : ℕ). walk (problem c) (sparingOn c n) (weightOn c n) (c .tasks) 0 0 (λ q. suc v)) light-same
         ∙ sparing-plan (problem c) n (enoughOn c n) (problem-laws c (quick s b costs)) (enough-tells c n) feasible
+
+  -- what the walk has found, and that it has found nothing
+  module _ {w w′ : List ℕ} {x : Walked} (room : Area b w) (walked : WalkedTo (chainOf s b) b w w′ x) where
+    light-walked : walked .least ≤ topThreshold → lightOn (chainOf s b) (walked .least) < noPlan (b .cores)
+    light-walked h = light-some (walked .least) (decided-feasible (walked .least) (walked .decided room) h)
+
+    pub walked-some : x .found ≡ true → (walked .least ≤ topThreshold) × (x .plan ≡ encodePlan (planOn (chainOf s b) (walked .least)))
+    walked-some e = ⊎-elim
+        (λ h. absurd (true-not-false (x .found) e (walked .none (λ _. inl h) .0)))
+        (λ h. (h, walked .some room h (light-walked h) .1))
+        (lt-or-le topThreshold (walked .least))
+
+    pub walked-none : x .found ≡ false → topThreshold < walked .least
+    walked-none e = ⊎-elim
+        (λ h. h)
+        (λ h. absurd (true-not-false (x .found) (walked .some room h (light-walked h) .0) e))
+        (lt-or-le topThreshold (walked .least))
 
   -- the plan of the least feasible threshold
   module _ (n : ℕ) (feasible : Feasible (problem (chainOf s b)) n) (bottom : Bottom (problem (chainOf s b)) n) {path : List ℕ} (laid : path ≡ encodePlan (planOn (chainOf s b) n)) where

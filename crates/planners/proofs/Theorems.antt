@@ -21,7 +21,7 @@ use Rattle.search.specs.Best.{fitsAt}
 use Rattle.slack.specs.Problem.{grain, price, problem}
 use Rattle.planners.specs.Best.{begins, bestAnswer, bestBytes}
 use Rattle.planners.specs.Claims.{ComesFirst, Filled}
-use Rattle.planners.proofs.Copies as copies
+use Rattle.weights.proofs.Copies as copies
 use Rattle.planners.proofs.Outcomes as outcomes
 
 module _ (s w work : List ℕ) (began : begins s w work ≡ true) where

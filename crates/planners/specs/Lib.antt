@@ -1,3 +1,3 @@
 pub mod Best
 pub mod Claims
-pub mod Search
+pub mod Reached

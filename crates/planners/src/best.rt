@@ -1,24 +1,19 @@
 // Document 01's Best plan: least bottleneck, then fewest cores, then least single-block time (document 02, M-104), then module order.
 ghost use mathlib.Core.Path.{_≡_};
 ghost use Prim.Native.Nat.{_≤_};
-ghost use lib.ListN.{length};
+ghost use lib.ListN.{length, replicate};
 ghost use Rattle.records.specs.Format.{IsCosts};
 ghost use Rattle.modules.specs.Model.{chainOf};
 ghost use Rattle.layout.specs.Layout.{planBytes, modulesOf};
 ghost use Rattle.figures.specs.Plan.{figuresOf};
 ghost use Rattle.planners.specs.Best.{workWords, bestPlan, foundAnswer, foundBytes, bestAnswer, bestBytes, bestWork};
-ghost use Rattle.planners.specs.Search.{AllReached};
-use crate::path::lay_path;
-use crate::rests::fewest_cores;
-use crate::sweep::weight_within;
+ghost use Rattle.planners.specs.Reached.{AllReached};
 use figures::Answer;
 use figures::refuse;
-use guess::TOP;
 use layout::PLAN_BYTES;
 use layout::put_plan;
 use records::Board;
-use threshold::least_threshold;
-use threshold::zero;
+use walk::first_plan;
 
 const WORK_WORDS: usize = 16384;
 
@@ -37,16 +32,24 @@ fn search(costs: &[u8], board: Board, plan: &mut [u8], work: &mut [u32]) -> Answ
         × (now (plan .exit) ≡ foundBytes (bestPlan (chainOf (now (costs .entry)) board)) (now (plan .entry)))
         × (length (now (work .exit)) ≡ length (now (work .entry))) ⌝ }
 {
-    let n = least_threshold(costs, board, work);
-    if TOP < n {
+    let x = first_plan(costs, board, work);
+    if !x.found {
         return refuse(9, 0);
     }
-    let left = fewest_cores(work, board.cores);
-    let weight = weight_within(costs, board, work, n, left);
-    let mut path = [0u8; PLAN_BYTES];
-    lay_path(costs, board, work, n, left, weight, &mut path);
+    let path = x.plan;
     put_plan(path, plan);
     figures_of(costs, board, path)
+}
+
+// All words become 0.
+fn zero(work: &mut [u32])
+    ensures { λ _. ⌜ now (work .exit) ≡ replicate (length (now (work .entry))) 0 ⌝ }
+{
+    let mut i: usize = 0;
+    while i < work.len() {
+        work[i] = 0;
+        i += 1;
+    }
 }
 
 // Fills in the plan that comes before all others that keep the rules, or refuses. Afterwards the whole work area is zero, or

@@ -3,9 +3,5 @@
 //
 // It fills the lent plan bytes and answers with the plan's figures, or refuses by number and leaves them as they came.
 mod best;
-mod path;
-mod rests;
-mod sweep;
-mod weights;
 
 pub use best::best_plan;

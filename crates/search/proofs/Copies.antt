@@ -1,8 +1,8 @@
 -- The fewest copies by one division: they are enough, and no fewer are. By cases on the load of one copy, with the law of a
 -- division rounded up.
-use Prim.Native.Nat.{ℕ, _+_, _*_, _≤_, _<_}
+use Prim.Native.Nat.{ℕ, _*_, _≤_, _<_}
 use native.Mathlib.Omega.{arith}
-use native.Mathlib.Nat.{le-refl, mul-le-mul, mul-le-mul-right}
+use native.Mathlib.Nat.{mul-le-mul-right}
 use mathlib.Core.Path.{_≡_, ap}
 use mathlib.Core.Bool.{Bool, _&&_, _||_}
 use mathlib.Core.Logic.{inl, inr}
@@ -98,16 +98,3 @@ module _ (rep : Bool) (a b n : ℕ) where
           | inl w ↦ w
           | inr w ↦ let e : n ≡ 0 = omega arith in absurd (omega (arith, ap (λ z. z * i) e))
         ]
-
-    -- they are at most one more than the load, for a program's arithmetic
-    pub fewest-small : fewest rep a b n ≤ b + 1
-    fewest-small = elim (lt-or-le n a) [
-      | inr g ↦ rw (fewest-one g) (omega arith)
-      | inl g ↦ elim (test (rep && leb 1 n)) [
-        | passed v ↦
-            let z = leb→le 1 n (and-r rep (leb 1 n) v) in
-            rw (fewest-more g (and-l rep (leb 1 n) v) z) (omega (arith, rounded-least b n b z .1 (omega (arith, mul-le-mul (le-refl b) z))))
-        | failed v ↦
-            rw (fewest-none g (λ t e. T-not (rep && leb 1 n) v (and-i rep (leb 1 n) t (le→leb 1 n e)))) (omega arith)
-      ]
-    ]

@@ -1,6 +1,6 @@
 -- The first number of a range that passes a test: what it finds passes, nothing before it does, and what a loop that looks for it
 -- keeps. By induction on the range.
-use Prim.Native.Nat.{ℕ, zero, suc, _+_, _-_, _≤_, _<_}
+use Prim.Native.Nat.{ℕ, zero, suc, _+_, _≤_, _<_}
 use native.Mathlib.Omega.{arith}
 use native.Mathlib.Nat.{le-refl, eq-or-lt-of-le}
 use mathlib.Core.Path.{_≡_}
@@ -51,21 +51,6 @@ find-ge (suc n) a f = elim (test (f a)) [
   | passed t ↦ rw (find-hit n a f t) (le-refl a)
   | failed t ↦ rw (find-miss n a f t) (omega (arith, find-ge n (a + 1) f))
 ]
-
--- ---- a loop over 0 .. n - 1 that looks for it, at i: its start, its step, its early end, and its end
-
-pub find-start : (n : ℕ) (f : ℕ → Bool) → find n 0 f ≡ find (n - 0) 0 f
-find-start n f = let e : n - 0 ≡ n = omega arith in rw e
-
-pub find-next : (n i : ℕ) (f : ℕ → Bool) → i < n → T (not (f i)) → find (n - i) i f ≡ find (n - (i + 1)) (i + 1) f
-find-next n i f h t = let e : n - i ≡ suc (n - (i + 1)) = omega arith in rw e (find-miss (n - (i + 1)) i f t)
-
-pub find-here : (n i : ℕ) (f : ℕ → Bool) → i < n → T (f i) → find (n - i) i f ≡ i
-find-here n i f h t = let e : n - i ≡ suc (n - (i + 1)) = omega arith in rw e (find-hit (n - (i + 1)) i f t)
-
-pub find-end : (n i : ℕ) (f : ℕ → Bool) → i ≡ n → find (n - i) i f ≡ n
-unfolding find
-find-end n i f h = let e : n - i ≡ 0 = omega arith in rw e h
 
 -- a loop that stops at the first that passes has found it, wherever its range would have ended
 pub find-is : (n : ℕ) (f : ℕ → Bool) (i : ℕ) → i < n → T (f i) → ((j : ℕ) → j < i → T (not (f j))) → find n 0 f ≡ i

@@ -22,7 +22,7 @@ use Rattle.search.specs.Sparing.{Enough, fewest, need, sparing, Rest, Te
 use Rattle.search.proofs.Tests.{and-l, and-r, and-i, ne→neqb}
 use Rattle.search.proofs.Least.{pick-yes, pick-no, pick-le, least-le, least-ge}
 use Rattle.search.proofs.Find.{find-yes, find-le, find-is, some-i, some-e}
-use Rattle.search.proofs.Plan.{valid-first, valid-head, valid-tail, valid-cons, valid-map, Fair, fair-at, head-le, tight-fits, tight-room, tight-i, cores-weigh, on-board}
+use Rattle.search.proofs.Plan.{valid-first, valid-head, valid-tail, valid-cons, valid-map, Fair, fair-at, head-le, tight-fits, tight-i, cores-weigh, on-board}
 use Rattle.search.proofs.Weight.{attained, table-le}
 use Rattle.search.proofs.Bottleneck.{within-fair, within-rules}
 use Rattle.search.proofs.Order.{before-asym}
@@ -135,9 +135,6 @@ module _ (X : Problem) (n : ℕ) (enough : Enough) where
 
     pub sparing-fits : T (sparing X n enough s t l r p q) → T (fitsAt X n s t l r p q)
     sparing-fits u = and-l (fitsAt X n s t l r p q) (few && left) u
-
-    pub sparing-room : T (sparing X n enough s t l r p q) → s + r * p + q ≤ X .board
-    sparing-room u = tight-room (X .board) (within X n) s t l r p q (sparing-fits u)
 
     pub sparing-spares : T (sparing X n enough s t l r p q)
         → (r * p ≤ need (X .board) enough s t p) × T (enough p l q (need (X .board) enough s t p - r * p))

@@ -8,8 +8,7 @@ use mathlib.Core.Bool.{not}
 use mathlib.Core.List.{List, [], _∷_, _++_, append-nil, append-assoc}
 use lib.Dec.{T, eqb, eqb-refl}
 use Rattle.modules.specs.declared.Module.{Module}
-use Rattle.search.specs.Least.{pick}
-use Rattle.search.specs.Plan.{Rule, Problem, moduleAfter, of, cap, Priced}
+use Rattle.search.specs.Plan.{Rule, Problem, moduleAfter, cap, Priced}
 use Rattle.search.specs.Weight.{Table, table}
 use Rattle.search.specs.Walk.{Room, choice, chosen, roomAfter, walk, Fine}
 use Rattle.search.specs.Loops.{Walking}
@@ -32,12 +31,6 @@ module _ (X : Problem) (fits : Rule) (rest : Table) where
   unfolding walk
   walk-end zero s t room h = refl
   walk-end (suc m) s t room h = cond-yes (eqb t (X .tasks)) [] _ (rw h (eqb-refl (X .tasks)))
-
--- of the room before a module, only its value at that module's cores counts after it
-pub room-number : (X : Problem) (fits : Rule) (s t : ℕ) (room : Room) (x : Module) (w : ℕ) → room (x .cores) ≡ w
-    → roomAfter X fits s t room x ≡ roomAfter X fits s t (λ q. w) x
-unfolding roomAfter
-room-number X fits s t room x w e = λ i q. pick (of fits s t x q) (e i - of (X .price) s t x q) 0
 
 -- the first module that three nested loops find is the one that the walk takes
 pub chosen-found : (X : Problem) (fits : Rule) (rest : Table) (s t : ℕ) (room : Room) (l r p : ℕ)
@@ -116,9 +109,3 @@ module _ (X : Problem) (A : Priced X) (fits : Rule) (F : Fair (X .tasks) fits) (
         → Walking X fits whole (done ++ (y ∷ [])) (m - 1) (y .cores) (y .last) (roomAfter X fits s t room y)
     walking-next zero w h = absurd (omega (arith, w .enough))
     walking-next (suc m) w h = let e : suc m - 1 ≡ m = omega arith in rw e (walking-here m w h)
-
-    -- the same by the last task, copies and cores that the loops have found
-    pub walking-found : (m l r p : ℕ) → y ≡ moduleAfter t l r p → Walking X fits whole done m s t room → t < X .tasks
-        → Walking X fits whole (done ++ (moduleAfter t l r p ∷ [])) (m - 1) p l (roomAfter X fits s t room (moduleAfter t l r p))
-    walking-found m l r p e w h =
-        subst (λ x. Walking X fits whole (done ++ (x ∷ [])) (m - 1) (x .cores) (x .last) (roomAfter X fits s t room x)) e (walking-next m w h)

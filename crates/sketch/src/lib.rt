@@ -8,6 +8,7 @@ mod slacks;
 
 pub use judged::some_plan;
 pub use slacks::has_slack;
+pub use slacks::word_at;
 
 // The slack of the rest after task t whose first module has q cores, b in all, stands at t · 1089 + q · 33 + b.
 pub const SQUARE: usize = 1089;

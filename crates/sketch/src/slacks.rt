@@ -7,7 +7,7 @@ ghost use Rattle.sketch.specs.Slacks.{Slacked};
 use crate::SIDE;
 
 // The word i, 0 where there is none.
-pub(crate) fn word_at(work: &[u32], i: usize) -> u32
+pub fn word_at(work: &[u32], i: usize) -> u32
     ensures { λ r. ⌜ r ≡ getD (now (work .entry)) i 0 ⌝ }
 {
     if i < work.len() {

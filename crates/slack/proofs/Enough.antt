@@ -67,9 +67,6 @@ module _ (c : Chain) (n : ℕ) where
       | inr a ↦ let (left, some, most) = slack-needs t q b (omega arith) in inr (left, some, most, a)
     ]
 
-  pub enough-end : (s b : ℕ) → T (enoughOn c n s (c .tasks) 0 b)
-  enough-end s b = enough-over s (c .tasks) 0 b refl refl
-
   -- more cores are enough too
   pub enough-fewer : (s t q b b′ : ℕ) → b ≤ b′ → T (enoughOn c n s t q b) → T (enoughOn c n s t q b′)
   enough-fewer s t q b b′ h u = elim (enough-cases s t q b u) [

@@ -1,50 +1,50 @@
--- What modules that end with a task leave, by a row of cheapest transfers, and the table by modules that end after a task, which each task
--- that is ended takes one further. By the laws of the slack table of a chain.
+-- What modules that end with a task push by what they leave, and the table by modules that end after a task, which each task that is ended takes
+-- one further. By the laws of the slack table of a chain.
 use Prim.Native.Nat.{ℕ, _+_, _-_, _*_, _≤_, _<_}
 use native.Mathlib.Nat.{le-refl}
 use native.Mathlib.Omega.{arith}
 use mathlib.Core.Path.{_≡_, refl, sym, _∙_}
-use mathlib.Core.Bool.{Bool}
+use mathlib.Core.Bool.{Bool, true, false}
 use mathlib.Core.Logic.{⊎-elim}
 use mathlib.Core.List.{List}
 use lib.ListN.{length, getD}
-use Rattle.records.proofs.Cases.{lt-or-le}
+use Rattle.records.proofs.Cases.{lt-or-le, true-or-false}
 use Rattle.modules.specs.Model.{Chain, handed}
-use Rattle.slack.specs.Fill.{leftBy, several, moreBy, bestBy, endsAt}
+use Rattle.slack.specs.Fill.{moreBy, bestBy, endsAt}
 use Rattle.slack.specs.Problem.{none, topThreshold, fitsOn, replicableOn, bodyOn, cheapestOn, oneOn, anyOn, afterOn}
-use Rattle.slack.proofs.Fill.{left-ext, best-ext}
+use Rattle.slack.proofs.After.{ends-before, ends-not, ends-any, ends-one}
+use Rattle.slack.proofs.Greatest.{larger-ge, larger-zero}
 use Rattle.slack.proofs.Chain.{after-start, after-next, after-slack}
 use Rattle.sketch.specs.Slacks.{slackAt}
-use Rattle.threshold.specs.Words.{reachAt, timeAt, rowOf, Laid, Cheapest, LeastRest, Offered, RowFilled, AllFilled, FilledAfter, Pushed, NoSlacks}
-use Rattle.threshold.proofs.Offering.{one-bare, any-bare, pushed-nothing}
+use Rattle.offers.specs.Words.{timeAt, RowFilled, LeastRest}
+use Rattle.offers.specs.Leaving.{Left}
+use Rattle.offers.proofs.Offering.{one-bare, any-bare}
+use Rattle.threshold.specs.Words.{reachAt, Laid, AllFilled, FilledAfter, OneNoMore, Pushed, NoSlacks}
 
--- ---- what copies leave beside a row of cheapest transfers is what they leave beside the cheapest transfers
+-- ---- modules that leave nothing
 
-module _ (c : Chain) (n l q : ℕ) (row : List ℕ) (right : Cheapest c n row l q) (b : ℕ) (inside : b ≤ c .board) (some : q ≤ b) where
-  same : (e : ℕ) → e ≤ b - q → rowOf row l q e ≡ cheapestOn c n l q e
-  same e h = right e (omega arith)
+-- no slack is below nothing
+pub ends-nothing : (fits : (t l q : ℕ) → Bool) (rep : (t l : ℕ) → Bool) (body : (t l q : ℕ) → ℕ) (O B : (l q b : ℕ) → ℕ) (t q b l : ℕ) → O l q b ≡ 0 → B l q b ≡ 0
+    → endsAt fits rep body O B t q b l ≡ 0
+ends-nothing fits rep body O B t q b l o e = ⊎-elim
+    (λ (d : t < l). ⊎-elim
+    (λ (f : fits t l q ≡ true). ⊎-elim
+    (λ (r : rep t l ≡ true). omega (arith, ends-any fits rep body O B t q b l d f r))
+    (λ (r : rep t l ≡ false). omega (arith, ends-one fits rep body O B t q b l d f r))
+    (true-or-false (rep t l)))
+    (λ (f : fits t l q ≡ false). ends-not fits rep body O B t q b l f)
+    (true-or-false (fits t l q)))
+    (λ (d : l ≤ t). ends-before fits rep body O B t q b l d)
+    (lt-or-le t l)
 
-  left-right : leftBy (timeAt n) (handed c 2) (rowOf row) 0 q b 1 ≡ oneOn c n l q b
-  unfolding leftBy
-  left-right = left-ext (timeAt n) (handed c 2) (rowOf row) (cheapestOn c n) l q b same 1 (le-refl 1)
-
-  best-right : bestBy (timeAt n) (handed c 2) (rowOf row) 0 q b ≡ anyOn c n l q b
-  unfolding bestBy moreBy several leftBy
-  best-right = best-ext (timeAt n) (handed c 2) (rowOf row) (cheapestOn c n) l q b same
-
--- a slack depends on what copies leave with its cores only
-ends-same : (fits : (t l q : ℕ) → Bool) (rep : (t l : ℕ) → Bool) (body : (t l q : ℕ) → ℕ) (O O′ B B′ : (l q b : ℕ) → ℕ) (t q b l : ℕ) → O l q b ≡ O′ l q b → B l q b ≡ B′ l q b
-    → endsAt fits rep body O B t q b l ≡ endsAt fits rep body O′ B′ t q b l
-unfolding endsAt
-ends-same fits rep body O O′ B B′ t q b l e d = rw (e, d) refl
-
-pub pushed-right : (c : Chain) (n l q extra : ℕ) (row left w w′ : List ℕ) → extra ≡ handed c 2 → Cheapest c n row l q → Offered n extra row q (c .board) left
-    → Pushed c w w′ (λ b. getD left b 0) (λ b. getD left (33 + b) 0) 0 l q → Pushed c w w′ (oneOn c n l q) (anyOn c n l q) 0 l q
-pushed-right c n l q extra row left w w′ e right offered pushed = record {
-  long = pushed .long;
-  made = λ t b f g u v. pushed .made t b f g u v ∙ rw (ends-same (fitsOn c) (replicableOn c) (bodyOn c) (λ l q b. getD left b 0) (λ i p b. oneOn c n l q b) (λ l q b. getD left (33 + b) 0) (λ i p b. anyOn c n l q b) t q b l
-      (offered .one b u v ∙ rw e (left-right c n l q row right b v u)) (offered .any b u v ∙ rw e (best-right c n l q row right b v u))) refl;
-  kept = pushed .kept;
+-- where none of them leaves something all slacks are as they should be
+pub pushed-nothing : (c : Chain) (w : List ℕ) (one any : ℕ → ℕ) (l q : ℕ) → ((b : ℕ) → q ≤ b → b ≤ c .board → (one b ≡ 0) × (any b ≡ 0)) → Pushed c w w one any 0 l q
+pushed-nothing c w one any l q bare = record {
+  long = refl;
+  made = λ t b f g u v.
+      let (o, a) = bare b u v in
+      sym (rw (ends-nothing (fitsOn c) (replicableOn c) (bodyOn c) (λ l q b. one b) (λ l q b. any b) t q b l o a) (larger-zero _));
+  kept = λ j x. refl;
 }
 
 -- nothing is pushed where nothing can be sent to the rests that fit beside one copy
@@ -54,6 +54,35 @@ pushed-bare c n l q w high some few bare = pushed-nothing c w (oneOn c n l q) (a
   one-bare n (handed c 2) (cheapestOn c n) l q b (c .board + 1 - q) high some (omega arith) (λ x h. bare x (omega arith)) (omega arith),
   any-bare n (handed c 2) (cheapestOn c n) l q b (c .board + 1 - q) high some (omega arith) (λ x h. bare x (omega arith)) (omega arith),
 ))
+
+-- ---- what is pushed is what modules leave
+
+-- a slack depends on what copies leave with its cores only
+ends-same : (fits : (t l q : ℕ) → Bool) (rep : (t l : ℕ) → Bool) (body : (t l q : ℕ) → ℕ) (O O′ B B′ : (l q b : ℕ) → ℕ) (t q b l : ℕ) → O l q b ≡ O′ l q b → B l q b ≡ B′ l q b
+    → endsAt fits rep body O B t q b l ≡ endsAt fits rep body O′ B′ t q b l
+unfolding endsAt
+ends-same fits rep body O O′ B B′ t q b l e d = rw (e, d) refl
+
+pub pushed-right : (c : Chain) (n l q start : ℕ) (left w w′ : List ℕ) → Left c n l q left start → Pushed c w w′ (λ b. getD left b 0) (λ b. getD left (33 + b) 0) 0 l q
+    → Pushed c w w′ (oneOn c n l q) (anyOn c n l q) 0 l q
+pushed-right c n l q start left w w′ leaves pushed = record {
+  long = pushed .long;
+  made = λ t b f g u v. pushed .made t b f g u v ∙ rw (ends-same (fitsOn c) (replicableOn c) (bodyOn c) (λ l q b. getD left b 0) (λ i p b. oneOn c n l q b) (λ l q b. getD left (33 + b) 0) (λ i p b. anyOn c n l q b) t q b l
+      (leaves .one b u v) (leaves .any b u v)) refl;
+  kept = pushed .kept;
+}
+
+-- nothing is pushed where copies leave nothing with any of the board's cores
+pub pushed-short : (c : Chain) (n l q start : ℕ) (left w : List ℕ) → Left c n l q left start → c .board < start → Pushed c w w (oneOn c n l q) (anyOn c n l q) 0 l q
+pushed-short c n l q start left w leaves over = pushed-nothing c w (oneOn c n l q) (anyOn c n l q) l q (λ b u v.
+    let z = leaves .bare b u (omega arith) in
+    (sym (leaves .one b u v) ∙ z .0, sym (leaves .any b u v) ∙ z .1))
+
+-- what one copy leaves any do too
+pub left-no-more : (c : Chain) (n l q start : ℕ) (left : List ℕ) → Left c n l q left start → OneNoMore left q (c .board)
+unfolding bestBy
+left-no-more c n l q start left leaves b u v =
+    omega (arith, leaves .one b u v, leaves .any b u v, larger-ge (oneOn c n l q b) (moreBy (timeAt n) (handed c 2) (cheapestOn c n) l q b) .0)
 
 -- ---- the words of the tasks
 

@@ -17,7 +17,8 @@ use Rattle.slack.proofs.Chain.{found-slack}
 use Rattle.slack.proofs.Splits.{found-more}
 use Rattle.guess.specs.declared.Hunt.{Hunt}
 use Rattle.sketch.specs.Slacks.{Slacked}
-use Rattle.threshold.specs.Words.{Area, Laid, AllFilled}
+use Rattle.offers.specs.Words.{Area}
+use Rattle.threshold.specs.Words.{KeptBeyond, Laid, AllFilled}
 use Rattle.threshold.specs.Threshold.{Decided, Searched, Bracket, power, Tried}
 
 -- each power of 2 is twice the one before
@@ -143,9 +144,9 @@ module _ (c : Chain) where
 
 -- words without room are refused, and come back as they were
 pub searched-refused : (c : Chain) (b : Board) (w : List ℕ) {r : ℕ} → (Area b w → ⊥) → r ≡ topThreshold + 1 → Searched c b w w r
-searched-refused c b w out e = record { decided = λ a. absurd (out a); refused = λ x. (e, refl) }
+searched-refused c b w out e = record { long = refl; roomy = λ h. absurd (omega arith); decided = λ a. absurd (out a); refused = λ x. (e, refl); kept = λ j h. refl }
 
--- words with room are answered, and hold what is laid and the slack table of the answer
+-- words with room are answered, and hold what is laid and the slack table of the answer, and behind the tables what they held
 pub searched-decided : (c : Chain) (b : Board) (w : List ℕ) {w′ : List ℕ} {r : ℕ} → Area b w → Decided c r → length w′ ≡ length w → Laid c w′
-    → (r ≤ topThreshold → AllFilled c r w′) → Searched c b w w′ r
-searched-decided c b w room d long laid filled = record { decided = λ a. (d, long, laid, filled); refused = λ x. absurd (x room) }
+    → (r ≤ topThreshold → AllFilled c r w′) → KeptBeyond w w′ → Searched c b w w′ r
+searched-decided c b w room d long laid filled kept = record { long = long; roomy = λ h. room; decided = λ a. (d, laid, filled); refused = λ x. absurd (x room); kept = kept }

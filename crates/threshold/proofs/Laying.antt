@@ -18,7 +18,8 @@ use Rattle.modules.proofs.Amounts.{copies-drop}
 use Rattle.modules.proofs.Sums.{gather-split}
 use Rattle.slack.proofs.Growing as growing
 use Rattle.sketch.specs.Slacks.{slackAt}
-use Rattle.threshold.specs.Words.{tableWords, executionAt, internalAt, reachAt, Longest, TaskLaid, LaidTo, LaidOnly, Fixed, Cleared, NoSlacks}
+use Rattle.offers.specs.Words.{tableWords}
+use Rattle.threshold.specs.Words.{executionAt, internalAt, reachAt, KeptBeyond, Longest, TaskLaid, LaidTo, LaidOnly, Fixed, Cleared, NoSlacks}
 
 -- ---- the longest module of one copy
 
@@ -138,6 +139,10 @@ module _ (c : Chain) where
         (λ l. laid-before i p l (laid i p a b l))
         (λ l. let d : i ≡ t = omega arith in let e : p ≡ q = omega arith in rw (d, e) (only .made))
         (lt-or-le (i * 33 + p) (t * 33 + q))
+
+    -- no word of a task stands behind the tables
+    pub laid-beyond : KeptBeyond w w′
+    laid-beyond j h = only .kept j (λ e. omega arith) (λ e. omega arith) (λ e. omega arith)
 
   -- it starts with the tasks before, and ends with that task too
   pub laid-start : (w : List ℕ) (t : ℕ) → LaidTo c w t → LaidUpto w t 1

@@ -21,7 +21,8 @@ use Rattle.slack.specs.Problem.{fitsOn, replicableOn, bodyOn}
 use Rattle.slack.proofs.Greatest.{larger-zero}
 use Rattle.slack.proofs.After.{ends-not, ends-any, ends-one}
 use Rattle.sketch.specs.Slacks.{slackAt}
-use Rattle.threshold.specs.Words.{executionAt, internalAt, reachAt, Laid, ReachedIn, Fixed, FirstServed, OneNoMore, Raised, Pushed}
+use Rattle.offers.specs.Words.{FirstServed}
+use Rattle.threshold.specs.Words.{executionAt, internalAt, reachAt, Laid, ReachedIn, Fixed, OneNoMore, Raised, Pushed}
 
 -- ---- bodies, from the last task on
 

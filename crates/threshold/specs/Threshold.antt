@@ -8,7 +8,8 @@ use Rattle.records.specs.declared.Board.{Board}
 use Rattle.modules.specs.Model.{Chain}
 use Rattle.slack.specs.Problem.{topThreshold, SomeWithin}
 use Rattle.guess.specs.declared.Hunt.{Hunt}
-use Rattle.threshold.specs.Words.{Area, Laid, AllFilled}
+use Rattle.offers.specs.Words.{Area}
+use Rattle.threshold.specs.Words.{KeptBeyond, Laid, AllFilled}
 
 -- r is the least threshold up to the greatest that some plan is within; one more than the greatest where there is none
 pub record Decided (c : Chain) (r : ℕ) : Type 0 where
@@ -17,10 +18,13 @@ pub record Decided (c : Chain) (r : ℕ) : Type 0 where
   pub none-below : (m : ℕ) → m < r → SomeWithin c m → ⊥
 
 -- what is answered to a board and words, and what the words are afterwards: what is laid and the slack table of the answer, where some plan
--- is within it; or as lent where the board is out of range or the words are too few
+-- is within it; or as lent where the board is out of range or the words are too few; behind the tables as lent in each case
 pub record Searched (c : Chain) (b : Board) (w w′ : List ℕ) (r : ℕ) : Type 0 where
-  pub decided : Area b w → Decided c r × (length w′ ≡ length w) × Laid c w′ × (r ≤ topThreshold → AllFilled c r w′)
+  pub long : length w′ ≡ length w
+  pub roomy : r ≤ topThreshold → Area b w
+  pub decided : Area b w → Decided c r × Laid c w′ × (r ≤ topThreshold → AllFilled c r w′)
   pub refused : (Area b w → ⊥) → (r ≡ topThreshold + 1) × (w′ ≡ w)
+  pub kept : KeptBeyond w w′
 
 -- ---- the search
 

@@ -7,19 +7,17 @@ ghost use lib.ListN.{length, getD};
 ghost use lib.Dec.{ltb, leb};
 ghost use Rattle.modules.specs.Model.{chainOf, handed};
 ghost use Rattle.slack.specs.Problem.{none, topThreshold, oneOn, anyOn};
-ghost use Rattle.threshold.specs.Words.{tableWords, executionAt, internalAt, Area, Laid, ReachedIn, Fixed, RowFilled, AllFilled, FilledAfter, Raised, LeastRest, NoneLeft, OneNoMore, Pushed, PushedAll, Cleared, NoSlacks};
-use crate::ends::blank;
-use crate::ends::cheapest;
-use crate::ends::first_sent;
-use crate::ends::first_served;
-use crate::ends::larger;
-use crate::ends::least_rest;
-use crate::ends::offer;
-use crate::ends::wide;
+ghost use Rattle.offers.specs.Words.{tableWords, Area, RowFilled, LeastRest, NoneLeft};
+ghost use Rattle.threshold.specs.Words.{executionAt, internalAt, KeptBeyond, Laid, ReachedIn, Fixed, AllFilled, FilledAfter, Raised, OneNoMore, Pushed, PushedAll, Cleared, NoSlacks};
 use crate::words::EXECUTIONS;
 use crate::words::INTERNALS;
-use crate::words::NONE;
 use crate::words::REACHES;
+use offers::NONE;
+use offers::first_above;
+use offers::larger;
+use offers::least_rest;
+use offers::left_from;
+use offers::wide;
 use records::Board;
 use sketch::SIDE;
 use sketch::SQUARE;
@@ -105,7 +103,7 @@ fn push(work: &mut [u32], cores: u8, l: u8, q: u8, start: usize, fixed: u8, left
         own = grow(work, t, l, q, own);
         let taken = capped(own);
         let from = row_of(fixed, before);
-        first = first_served(left, from, first, cores as usize, taken);
+        first = first_above(left, from, first, cores as usize, taken);
         if (cores as usize) < first {
             return;
         }
@@ -150,16 +148,11 @@ fn end_at(
     if work[REACHES + alone] < (l as u32) {
         return;
     }
-    let unsent = blank(board.tasks, l);
-    let mut row = [unsent; SIDE];
-    cheapest(costs, board, work, l, q, least, &mut row);
-    let low = first_sent(&row, least, end);
-    if end < low {
+    let mut left = [0u32; 66];
+    let start = left_from(costs, board, work, n, extra, l, q, least, &mut left);
+    if cores < start {
         return;
     }
-    let mut left = [0u32; 66];
-    offer(n, extra, &row, q as usize, low, cores, &mut left);
-    let start = (q as usize) + low;
     push(work, board.cores, l, q, start, fixed, &left);
 }
 
@@ -168,7 +161,8 @@ fn end_all(costs: &[u8], board: Board, work: &mut [u32], n: u64, l: u8)
     requires { ⌜ Area board (now work) × (n ≤ topThreshold) × (1 ≤ l) × (l ≤ board .tasks) × Laid (chainOf (now costs) board) (now work)
         × FilledAfter (chainOf (now costs) board) n (now work) l ⌝ }
     ensures { λ _. ⌜ (length (now (work .exit)) ≡ length (now (work .entry))) × Laid (chainOf (now (costs .entry)) board) (now (work .exit))
-        × FilledAfter (chainOf (now (costs .entry)) board) n (now (work .exit)) (l - 1) ⌝ }
+        × FilledAfter (chainOf (now (costs .entry)) board) n (now (work .exit)) (l - 1)
+        × KeptBeyond (now (work .entry)) (now (work .exit)) ⌝ }
 {
     let extra = modules::handed(costs, board, 2);
     let fixed = last_fixed(costs, board, l);
@@ -209,7 +203,8 @@ fn clear(work: &mut [u32], tasks: u8, cores: u8)
 pub(crate) fn fill(costs: &[u8], board: Board, work: &mut [u32], n: u64)
     requires { ⌜ Area board (now work) × (n ≤ topThreshold) × Laid (chainOf (now costs) board) (now work) ⌝ }
     ensures { λ _. ⌜ (length (now (work .exit)) ≡ length (now (work .entry))) × Laid (chainOf (now (costs .entry)) board) (now (work .exit))
-        × AllFilled (chainOf (now (costs .entry)) board) n (now (work .exit)) ⌝ }
+        × AllFilled (chainOf (now (costs .entry)) board) n (now (work .exit))
+        × KeptBeyond (now (work .entry)) (now (work .exit)) ⌝ }
 {
     clear(work, board.tasks, board.cores);
     let mut l = board.tasks;

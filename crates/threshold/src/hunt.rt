@@ -1,24 +1,23 @@
 // The search for the least threshold: a bracket that each try makes narrower. Where a try has a plan, one is read off the table and judged,
 // and the bracket goes down to the plan's own bottleneck.
 ghost use mathlib.Core.Path.{_≡_};
-ghost use mathlib.Core.Bool.{true, false, cond};
+ghost use mathlib.Core.Bool.{cond};
 ghost use Prim.Native.Nat.{_+_, _≤_, _<_};
 ghost use lib.ListN.{length};
 ghost use lib.Dec.{leb};
 ghost use Rattle.modules.specs.Model.{chainOf};
 ghost use Rattle.slack.specs.Problem.{topThreshold};
-ghost use Rattle.threshold.specs.Words.{Area, Laid, AllFilled, Roomy};
+ghost use Rattle.offers.specs.Words.{Area};
+ghost use Rattle.threshold.specs.Words.{KeptBeyond, Laid, AllFilled};
 ghost use Rattle.threshold.specs.Threshold.{Decided, Searched, Bracket, Tried};
 use crate::fill::fill;
 use crate::lay::lay;
-use crate::words::WORDS;
 use guess::Hunt;
 use guess::TOP;
 use guess::choose;
 use guess::start;
+use offers::has_room;
 use records::Board;
-use records::MOST_CORES;
-use records::MOST_TASKS;
 use sketch::has_slack;
 use sketch::some_plan;
 
@@ -84,7 +83,8 @@ fn narrowed(costs: &[u8], board: Board, work: &[u32], n: u64, h: Hunt) -> Hunt
 fn jump(costs: &[u8], board: Board, work: &mut [u32], from: Hunt) -> Hunt
     requires { ⌜ Area board (now work) × Laid (chainOf (now costs) board) (now work) × Bracket (chainOf (now costs) board) (from .lo) (from .hi) ⌝ }
     ensures { λ r. ⌜ (length (now (work .exit)) ≡ length (now (work .entry))) × Laid (chainOf (now (costs .entry)) board) (now (work .exit))
-        × Bracket (chainOf (now (costs .entry)) board) (r .lo) (r .hi) ⌝ }
+        × Bracket (chainOf (now (costs .entry)) board) (r .lo) (r .hi)
+        × KeptBeyond (now (work .entry)) (now (work .exit)) ⌝ }
 {
     let mut h = from;
     let mut i: u8 = 0;
@@ -105,7 +105,8 @@ fn jump(costs: &[u8], board: Board, work: &mut [u32], from: Hunt) -> Hunt
 fn halve(costs: &[u8], board: Board, work: &mut [u32], from: Hunt) -> u64
     requires { ⌜ Area board (now work) × Laid (chainOf (now costs) board) (now work) × Bracket (chainOf (now costs) board) (from .lo) (from .hi) ⌝ }
     ensures { λ r. ⌜ (length (now (work .exit)) ≡ length (now (work .entry))) × Laid (chainOf (now (costs .entry)) board) (now (work .exit))
-        × Decided (chainOf (now (costs .entry)) board) r ⌝ }
+        × Decided (chainOf (now (costs .entry)) board) r
+        × KeptBeyond (now (work .entry)) (now (work .exit)) ⌝ }
 {
     let mut h = from;
     let mut left = HALVES;
@@ -122,27 +123,9 @@ fn halve(costs: &[u8], board: Board, work: &mut [u32], from: Hunt) -> u64
     h.lo
 }
 
-// Whether the board is in range and the words are enough.
-fn has_room(board: Board, words: usize) -> bool
-    ensures { λ r. ⌜ (r ≡ true → Roomy board words) × (r ≡ false → Roomy board words → ⊥) ⌝ }
-{
-    if board.tasks < 1 {
-        return false;
-    }
-    if MOST_TASKS < board.tasks {
-        return false;
-    }
-    if board.cores < 1 {
-        return false;
-    }
-    if MOST_CORES < board.cores {
-        return false;
-    }
-    WORDS <= words
-}
-
 // The least threshold that some plan is within, TOP + 1 where none is within TOP, or where the board is out of range or the words are too
 // few. Afterwards the words hold what is laid and, where some plan is within it, its slack table; in the last two cases they are as they came.
+// The words behind the tables always are.
 pub fn least_threshold(costs: &[u8], board: Board, work: &mut [u32]) -> u64
     ensures { λ r. ⌜ Searched (chainOf (now (costs .entry)) board) board (now (work .entry)) (now (work .exit)) r ⌝ }
 {

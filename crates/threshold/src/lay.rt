@@ -3,7 +3,8 @@ ghost use mathlib.Core.Path.{_≡_};
 ghost use Prim.Native.Nat.{_+_, _≤_, _<_};
 ghost use lib.ListN.{length};
 ghost use Rattle.modules.specs.Model.{chainOf};
-ghost use Rattle.threshold.specs.Words.{Area, Longest, LaidTo, Laid, LaidOnly};
+ghost use Rattle.offers.specs.Words.{Area};
+ghost use Rattle.threshold.specs.Words.{KeptBeyond, Longest, LaidTo, Laid, LaidOnly};
 use crate::words::EXECUTIONS;
 use crate::words::INTERNALS;
 use crate::words::REACHES;
@@ -48,7 +49,8 @@ fn lay_task(costs: &[u8], board: Board, work: &mut [u32], t: u8, q: u8)
 // The words of the task t + 1 at all cores of the board.
 fn lay_cores(costs: &[u8], board: Board, work: &mut [u32], t: u8)
     requires { ⌜ Area board (now work) × (t < board .tasks) × LaidTo (chainOf (now costs) board) (now work) t ⌝ }
-    ensures { λ _. ⌜ (length (now (work .exit)) ≡ length (now (work .entry))) × LaidTo (chainOf (now (costs .entry)) board) (now (work .exit)) (t + 1) ⌝ }
+    ensures { λ _. ⌜ (length (now (work .exit)) ≡ length (now (work .entry))) × LaidTo (chainOf (now (costs .entry)) board) (now (work .exit)) (t + 1)
+        × KeptBeyond (now (work .entry)) (now (work .exit)) ⌝ }
 {
     let mut q: u8 = 1;
     while q <= board.cores {
@@ -60,7 +62,8 @@ fn lay_cores(costs: &[u8], board: Board, work: &mut [u32], t: u8)
 // The words of all tasks.
 pub(crate) fn lay(costs: &[u8], board: Board, work: &mut [u32])
     requires { ⌜ Area board (now work) ⌝ }
-    ensures { λ _. ⌜ (length (now (work .exit)) ≡ length (now (work .entry))) × Laid (chainOf (now (costs .entry)) board) (now (work .exit)) ⌝ }
+    ensures { λ _. ⌜ (length (now (work .exit)) ≡ length (now (work .entry))) × Laid (chainOf (now (costs .entry)) board) (now (work .exit))
+        × KeptBeyond (now (work .entry)) (now (work .exit)) ⌝ }
 {
     let mut t: u8 = 0;
     while t < board.tasks {

@@ -6,16 +6,12 @@
 //
 // No public function has a `requires`: each answers for all bytes, boards and words. The promise of `least_threshold` is `Searched` of
 // specs/Threshold.antt.
-mod ends;
 mod fill;
 mod hunt;
 mod lay;
 mod words;
 
-pub use ends::lesser;
-pub use ends::wide;
 pub use hunt::least_threshold;
 pub use words::EXECUTIONS;
 pub use words::INTERNALS;
 pub use words::REACHES;
-pub use words::zero;

@@ -138,7 +138,8 @@ impl Hunt {
             let in_proportion = self.hi * (2 * self.cores as u64 + 1) / (2 * cores as u64);
             return match self.misses {
                 0 if lo < in_proportion => in_proportion,
-                0 | 1 => middle,
+                0 => middle,
+                1 if self.hi / 16 < self.hi - lo => middle,
                 _ => below,
             };
         }

@@ -42,6 +42,9 @@ returns c = search needs
 returns-2 : tie.Need-returns-2
 returns-2 c = search needs
 
+halfway-requires : tie.Need-halfway-requires
+halfway-requires c κs = search needs
+
 returns-3 : tie.Need-returns-3
 returns-3 c = search needs
 
@@ -72,6 +75,7 @@ go-on-spec =
     div-n
     returns
     returns-2
+    halfway-requires
     returns-3
     returns-4
     returns-5

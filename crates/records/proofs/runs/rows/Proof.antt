@@ -1,6 +1,6 @@
 -- `rows` is `firstFault` of runs one after another, a row for each task. The loop's invariant: what is left finds what the whole does, and
 -- its records are there.
-use Prim.Native.Nat.{_+_, _-_, _*_}
+use Prim.Native.Nat.{_+_, _-_}
 use native.Mathlib.Omega.{arith}
 use Rattle.records.specs.Costs.{key}
 use Rattle.records.specs.Runs.{rowKeys}

@@ -2,7 +2,6 @@
 -- its records are there.
 use Prim.Native.Nat.{_+_, _-_, _*_, _<_}
 use native.Mathlib.Omega.{arith}
-use Rattle.records.specs.Costs.{key}
 use Rattle.records.specs.Runs.{squareKeys}
 use Rattle.records.proofs.Along.{Joining, joins-start, joins-room, joins-found, joins-next, joins-end}
 use Rattle.records.proofs.Bounds.{product-of-bytes}

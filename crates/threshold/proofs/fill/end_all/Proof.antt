@@ -21,7 +21,7 @@ last-fixed-requires : tie.Need-last-fixed-requires Inv-loop μ-loop
 last-fixed-requires c κs = search needs
 
 least-rest-requires : tie.Need-least-rest-requires Inv-loop μ-loop
-least-rest-requires c κs = let p = c .before .before .before .before .before .pre in (p .0, p .3)
+least-rest-requires c κs = search needs
 
 loop-holds : tie.Need-loop-holds Inv-loop μ-loop
 loop-holds c =
@@ -46,7 +46,7 @@ end-at-requires c κs =
       omega arith,
       i .laid,
       ended-row k (a .n) (b .pre .1) (omega arith) (omega arith) (a .work .now) (a .l) (b .pre .2) (b .pre .3) (o .work) (o .q) (o .inv .0) i,
-      ended-rest k (a .n) (b .pre .1) (omega arith) (omega arith) (a .work .now) (a .l) (b .pre .2) (b .pre .3) (o .work) (o .q) (o .inv .0) i _ _ _ (c .before .before .before .before .least-rest .ensures),
+      ended-rest k (a .n) (b .pre .1) (omega arith) (omega arith) (a .work .now) (a .l) (b .pre .2) (b .pre .3) (o .work) (o .q) (o .inv .0) i _ _ _ (c .before .before .before .before .least-rest .ensures .found (b .pre .0) (b .pre .3)),
     )
 
 add-q : tie.Need-add-q Inv-loop μ-loop
@@ -72,7 +72,7 @@ returns c =
     let b = c .before .before .before .before .before .before .before .before .before in
     let a = b .args in
     let i = o .inv .2 in
-    (i .long, i .laid, ended-all (chainOf (a .costs .now) (a .board)) (a .n) (b .pre .1) (omega arith) (omega arith) (a .work .now) (a .l) (b .pre .2) (b .pre .3) (o .work) (o .q) (omega arith) i)
+    (i .long, i .laid, ended-all (chainOf (a .costs .now) (a .board)) (a .n) (b .pre .1) (omega arith) (omega arith) (a .work .now) (a .l) (b .pre .2) (b .pre .3) (o .work) (o .q) (omega arith) i, λ j h. i .later j (omega arith))
 
 pub end-all-spec : {M : Type 1} → statement M
 end-all-spec =

@@ -96,8 +96,8 @@ capped-requires c κs = search needs
 row-of-requires : tie.Need-row-of-requires Inv-loop μ-loop
 row-of-requires c κs = search needs
 
-first-served-requires : tie.Need-first-served-requires Inv-loop μ-loop
-first-served-requires c κs = (omega arith, omega arith)
+first-above-requires : tie.Need-first-above-requires Inv-loop μ-loop
+first-above-requires c κs = search needs
 
 same-length-2 : tie.Need-same-length-2 Inv-loop μ-loop
 same-length-2 c = c .before .before .before .before .before .before .before .before .before .loop .inv .0
@@ -110,9 +110,10 @@ returns-2 c =
     let grown = c .before .before .before .before .grow in
     let taken = c .before .before .before .capped in
     let rows = c .before .before .row-of .ensures .0 in
-    let served = c .before .first-served in
+    let served = c .before .first-above in
+    let found = served .ensures .first (omega arith) (omega arith) in
     let spent = spent-more (a .left .now) (a .q) (a .fixed) (o .t - 1) _ rows (o .t) (o .first) (served .result) (o .own) (grown .result) (taken .result) (a .cores)
-    (omega arith) (o .inv .3) (omega (arith, grown .ensures .0)) (capped-le _ _ (taken .ensures)) (b .pre .7) (served .ensures) (o .inv .5) in (
+    (omega arith) (o .inv .3) (omega (arith, grown .ensures .0)) (capped-le _ _ (taken .ensures)) (b .pre .7) found (o .inv .5) in (
       o .inv .0,
       λ k board inside some laid fixes.
           let i = o .inv .6 k board inside some laid fixes in
@@ -148,13 +149,14 @@ loop-again c =
     let grown = c .before .before .before .before .before .before .before .before .grow in
     let taken = c .before .before .before .before .before .before .before .capped in
     let rows = c .before .before .before .before .before .before .row-of .ensures .0 in
-    let served = c .before .before .before .before .before .first-served in
+    let served = c .before .before .before .before .before .first-above in
+    let found = served .ensures .first (omega arith) (omega arith) in
     let raised = c .before .before .raise in
     let turn = c .before .before .before .before .before .before .before .before .before .before .before .before .loop-test .taken in
     let next : o .t ≡ o .t - 1 + 1 = omega (arith, turn) in
-    let late : a .q ≤ served .result = omega (arith, served .ensures .low) in
+    let late : a .q ≤ served .result = omega (arith, found .low) in
     let spent = spent-more (a .left .now) (a .q) (a .fixed) (o .t - 1) _ rows (o .t) (o .first) (served .result) (o .own) (grown .result) (taken .result) (a .cores)
-    (omega arith) (o .inv .3) (omega (arith, grown .ensures .0)) (capped-le _ _ (taken .ensures)) (b .pre .7) (served .ensures) (o .inv .5) in (
+    (omega arith) (o .inv .3) (omega (arith, grown .ensures .0)) (capped-le _ _ (taken .ensures)) (b .pre .7) found (o .inv .5) in (
       raised .kept .0 ∙ o .inv .0,
       omega arith,
       omega (arith, grown .ensures .1, o .inv .1, o .inv .2, turn),
@@ -202,7 +204,7 @@ push-spec =
     grow-requires
     capped-requires
     row-of-requires
-    first-served-requires
+    first-above-requires
     same-length-2
     returns-2
     cast-at

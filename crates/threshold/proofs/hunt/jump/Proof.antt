@@ -5,14 +5,14 @@ use native.Mathlib.Omega.{arith}
 use lib.ListN.{length}
 use borrow.Author.Needs.{needs}
 use Rattle.modules.specs.Model.{chainOf}
-use Rattle.threshold.specs.Words.{Laid}
+use Rattle.threshold.specs.Words.{KeptBeyond, Laid}
 use Rattle.threshold.specs.Threshold.{Bracket}
 use Rattle.threshold.proofs.hunt.jump.Statement.{statement}
 use Rattle.threshold.proofs.hunt.jump.Tie as tie
 
 abbrev Inv-loop : tie.InvT-loop
 Inv-loop costs board work₀ h₀ i₀ work h i =
-    (i ≤ 24) × (length work ≡ length work₀) × Laid (chainOf costs board) work × Bracket (chainOf costs board) (h .lo) (h .hi)
+    (i ≤ 24) × (length work ≡ length work₀) × Laid (chainOf costs board) work × Bracket (chainOf costs board) (h .lo) (h .hi) × KeptBeyond work₀ work
 
 abbrev μ-loop : tie.MeasureT-loop
 μ-loop costs board work₀ h₀ i₀ work h i = 24 - i
@@ -20,7 +20,7 @@ abbrev μ-loop : tie.MeasureT-loop
 loop-holds : tie.Need-loop-holds Inv-loop μ-loop
 loop-holds c =
     let s = c .before .before in
-    (omega arith, refl, s .pre .1, s .pre .2)
+    (omega arith, refl, s .pre .1, s .pre .2, λ j h. refl)
 
 same-length : tie.Need-same-length Inv-loop μ-loop
 same-length c = c .before .before .before .loop .inv .1
@@ -28,7 +28,7 @@ same-length c = c .before .before .before .loop .inv .1
 returns : tie.Need-returns Inv-loop μ-loop
 returns c =
     let i = c .before .before .before .loop .inv in
-    (i .1, i .2, i .3)
+    (i .1, i .2, i .3, i .4)
 
 choose-requires : tie.Need-choose-requires Inv-loop μ-loop
 choose-requires c κs = search needs
@@ -56,7 +56,7 @@ loop-again : tie.Need-loop-again Inv-loop μ-loop
 loop-again c =
     let i = c .before .before .before .before .before .before .before .before .before .before .loop .inv in
     let f = c .before .before .before .before .fill .ensures in
-    (omega (arith, c .before .before .before .before .before .before .before .before .before .loop-test .taken), f .0 ∙ i .1, f .1, c .narrowed .ensures .bracket)
+    (omega (arith, c .before .before .before .before .before .before .before .before .before .loop-test .taken), f .0 ∙ i .1, f .1, c .narrowed .ensures .bracket, λ j h. f .3 j h ∙ i .4 j h)
 
 same-length-2 : tie.Need-same-length-2 Inv-loop μ-loop
 same-length-2 c = c .before .loop .inv .1
@@ -64,7 +64,7 @@ same-length-2 c = c .before .loop .inv .1
 returns-2 : tie.Need-returns-2 Inv-loop μ-loop
 returns-2 c =
     let i = c .before .loop .inv in
-    (i .1, i .2, i .3)
+    (i .1, i .2, i .3, i .4)
 
 pub jump-spec : {M : Type 1} → statement M
 jump-spec =

@@ -49,8 +49,11 @@ returns-2 c =
     let room = c .before .before .before .before .before .before .before .before .before .before .before .before .before .before .before .has-room .ensures .0 (not-false _ (c .before .before .before .before .before .before .before .before .before .before .before .before .before .before .if1 .left)) in
     let a = c .before .before .before .before .before .before .before .before .before .before .before .before .before .before .before .before .before .before .args in
     let r = c .before .before .before .halve .ensures in
-    searched-decided (chainOf (a .costs .now) (a .board)) (a .board) (a .work .now) room (r .2) (r .0 ∙ c .before .before .before .before .before .before .before .jump .ensures .0 ∙ c .before .before .before .before .before .before .before .before .before .before .before .before .lay .ensures .0) (r .1)
+    let j = c .before .before .before .before .before .before .before .jump .ensures in
+    let l = c .before .before .before .before .before .before .before .before .before .before .before .before .lay .ensures in
+    searched-decided (chainOf (a .costs .now) (a .board)) (a .board) (a .work .now) room (r .2) (r .0 ∙ j .0 ∙ l .0) (r .1)
     (λ h. absurd (omega (arith, c .if2 .taken)))
+    (λ i h. r .3 i h ∙ j .3 i h ∙ l .2 i h)
 
 fill-requires : tie.Need-fill-requires
 fill-requires c κs =
@@ -66,9 +69,12 @@ returns-3 c =
     let room = c .before .before .before .before .before .before .before .before .before .before .before .before .before .before .before .before .before .before .before .has-room .ensures .0 (not-false _ (c .before .before .before .before .before .before .before .before .before .before .before .before .before .before .before .before .before .before .if1 .left)) in
     let a = c .before .before .before .before .before .before .before .before .before .before .before .before .before .before .before .before .before .before .before .before .before .before .args in
     let r = c .before .before .before .before .before .before .before .halve .ensures in
+    let j = c .before .before .before .before .before .before .before .before .before .before .before .jump .ensures in
+    let l = c .before .before .before .before .before .before .before .before .before .before .before .before .before .before .before .before .lay .ensures in
     let f = c .before .before .fill .ensures in
-    searched-decided (chainOf (a .costs .now) (a .board)) (a .board) (a .work .now) room (r .2) (f .0 ∙ r .0 ∙ c .before .before .before .before .before .before .before .before .before .before .before .jump .ensures .0 ∙ c .before .before .before .before .before .before .before .before .before .before .before .before .before .before .before .before .lay .ensures .0) (f .1)
+    searched-decided (chainOf (a .costs .now) (a .board)) (a .board) (a .work .now) room (r .2) (f .0 ∙ r .0 ∙ j .0 ∙ l .0) (f .1)
     (λ h. f .2)
+    (λ i h. f .3 i h ∙ r .3 i h ∙ j .3 i h ∙ l .2 i h)
 
 pub least-threshold-spec : {M : Type 1} → statement M
 least-threshold-spec =

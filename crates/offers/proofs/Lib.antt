@@ -1,0 +1,2 @@
+pub mod Offering
+pub mod Rows
