@@ -1,6 +1,6 @@
 // The thresholds of modules by themselves: where a search starts.
 ghost use mathlib.Core.Path.{_≡_};
-ghost use Prim.Native.Nat.{_+_, _*_, _≤_, _<_};
+ghost use Prim.Native.Nat.{_+_, _≤_, _<_};
 ghost use Rattle.modules.specs.Model.{chainOf};
 ghost use Rattle.modules.specs.Reach.{reach};
 ghost use Rattle.slack.specs.Problem.{topThreshold};

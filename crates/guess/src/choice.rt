@@ -63,7 +63,7 @@ fn raised(h: Hunt) -> u64
     h.lo
 }
 
-// Halfway from lo to the upper end, where that is more than a sixteenth away; else just below it.
+// Halfway from lo to the upper end, where they are more than a sixteenth of it apart; else just below it.
 fn halfway(h: Hunt, lo: u64) -> u64
     requires { ⌜ (lo ≤ h .hi) × (1 ≤ h .hi) × (h .hi ≤ topThreshold) ⌝ }
 {

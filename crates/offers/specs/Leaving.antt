@@ -14,15 +14,16 @@ pub record AboveFrom (w : List ℕ) (at from end e r : ℕ) : Type 0 where
   pub first : at + end < length w → from ≤ end + 1 → FirstServed w at from end e r
   pub out : (length w ≤ at + end) ⊎ (end < from) → r ≡ from
 
--- the fewest cores of a rest after the task l; 0 where the board is out of range, the words are too few, or the chain has no such task
+-- a number of cores below which no rest after the task l has a slack; 0 where the board is out of range, the words are too few, or the chain
+-- has no such task
 pub record RestBy (b : Board) (w : List ℕ) (l r : ℕ) : Type 0 where
   pub found : Area b w → l ≤ b .tasks → LeastRest (b .tasks) (b .cores) w l r
   pub out : (Area b w → l ≤ b .tasks → ⊥) → r ≡ 0
 
 -- ---- what modules of q cores that end with the task l leave at the threshold n
 
--- it is asked of enough words and for so many places, on a board in range, for one of the chain's tasks, and for cores beside which a rest of
--- `least` fits
+-- it is asked of enough words and for so many places, on a board in range, at a threshold up to the greatest, for one of the chain's tasks, and for
+-- cores beside which a rest of `least` fits
 pub record Askable (b : Board) (words n l q least places : ℕ) : Type 0 where
   pub roomy : Roomy b words
   pub low : n ≤ topThreshold
@@ -39,8 +40,9 @@ pub record Left (c : Chain) (n l q : ℕ) (left : List ℕ) (start : ℕ) : Type
   pub any : (b : ℕ) → q ≤ b → b ≤ c .board → getD left (33 + b) 0 ≡ anyOn c n l q b
   pub bare : NoneLeft left q start
 
--- what is answered, and what the places are afterwards: what is left, where the words hold the slacks of the rests, none of which has fewer
--- than `least` cores, and the places were zeros; as lent where it cannot be asked
+-- what is answered, and what the places are afterwards: what is left, where `extra` is what several copies take more, the words hold the slacks of
+-- the rests, none of which has fewer than `least` cores, and the places were zeros; one more than the board's cores, and as lent, where it cannot be
+-- asked
 pub record LeftFrom (c : Chain) (b : Board) (w : List ℕ) (n extra l q least : ℕ) (left left′ : List ℕ) (r : ℕ) : Type 0 where
   pub high : r ≤ b .cores + 1
   pub made : Askable b (length w) n l q least (length left) → extra ≡ handed c 2 → LeastRest (b .tasks) (b .cores) w l least

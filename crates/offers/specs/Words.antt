@@ -13,7 +13,7 @@ use Rattle.sketch.specs.Slacks.{slackAt}
 
 -- ---- the words
 
--- how many words there are
+-- how many words the tables take
 abbrev pub tableWords : ℕ
 tableWords = 14256
 

@@ -63,8 +63,8 @@ pub fn first_above(row: &[u32], at: usize, from: usize, end: usize, e: u32) -> u
     first_served(row, at, from, end, e)
 }
 
-// The fewest cores of a rest after task l that has a slack, one more than the board's where none has; 0 behind the last task, and where the
-// board is out of range or the words are too few. The slacks of rests that start with q cores are asked below the fewest so far.
+// A number of cores below which no rest after task l has a slack: the fewest with which one has, one more than the board's where none has; 0
+// behind the last task, and where the board is out of range or the words are too few. The slacks of rests that start with q cores are asked below the fewest so far.
 pub fn least_rest(work: &[u32], board: Board, l: u8) -> usize
     ensures { λ r. ⌜ RestBy board (now (work .entry)) l r ⌝ }
 {

@@ -13,10 +13,10 @@ use records::Board;
 use sketch::SIDE;
 
 // Two rows, each of an entry for each number of cores.
-const PLACES: usize = 66;
+pub const PLACES: usize = 66;
 
-// Whether it can be asked: for two rows, for cores beside which a rest of `least` fits, for a task of the chain, at the threshold n, of so many
-// words.
+// Whether it can be asked: for two rows, for cores beside which a rest of `least` fits, for a task of the chain, at a threshold up to the greatest,
+// on a board in range and of enough words.
 fn askable(board: Board, words: usize, n: u64, l: u8, q: u8, least: usize, places: usize) -> bool
     ensures { λ r. ⌜ (r ≡ true → Askable board words n l q least places) × (r ≡ false → Askable board words n l q least places → ⊥) ⌝ }
 {
@@ -45,8 +45,9 @@ fn askable(board: Board, words: usize, n: u64, l: u8, q: u8, least: usize, place
 }
 
 // What one copy of q cores leaves at b, and any copies at 33 + b, for all numbers of cores b from q to the board's: `least` is the fewest cores
-// of a rest after task l, `extra` what several copies take more, and `left` are zeros. The answer is the fewest cores with which something
-// can be left; one more than the board's where none are, and where it cannot be asked, which leaves `left` as it is.
+// of a rest after task l, `extra` what several copies take more, and `left` are zeros. The answer is a number of cores below which nothing
+// is left, the fewest with which something can be sent; one more than the board's where none are, and where it cannot be asked, which leaves `left`
+// as it is.
 pub fn left_from(
     costs: &[u8],
     board: Board,

@@ -1,6 +1,6 @@
 // What modules that end with one task leave to those before them, by the slacks of the rests after it (docs/THRESHOLD.md).
 //
-// No public function has a `requires`: each answers for all bytes, boards and words. The promises are those of specs/Leaving.antt.
+// No public function has a `requires`: each answers for all bytes, boards and words. The promises stand in specs/Leaving.antt and Words.antt.
 mod ends;
 mod leave;
 mod words;
@@ -10,7 +10,7 @@ pub use ends::larger;
 pub use ends::least_rest;
 pub use ends::lesser;
 pub use ends::wide;
+pub use leave::PLACES;
 pub use leave::left_from;
 pub use words::NONE;
-pub use words::WORDS;
 pub use words::has_room;

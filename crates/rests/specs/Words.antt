@@ -21,7 +21,7 @@ abbrev pub servedBy : Board → List ℕ → (l q b e : ℕ) → Bool
 servedBy a w l q b e = cond (eqb l (a .tasks)) (eqb q 0) (leb 1 q && leb q b && ltb e (getD w (slackAt l q b) 0))
 
 -- from q on r is the first number of cores with which a rest can still receive in the time e, by those words; q itself where it is more
--- than the board's, the board out of range, or there are not so many words
+-- than the board's, the board has more than 32, or there are not so many words
 pub record NeededBy (a : Board) (w : List ℕ) (t q e r : ℕ) : Type 0 where
   pub first : q ≤ a .cores → a .cores ≤ 32 → t * 1089 + q * 33 + a .cores < length w → FirstServed w (t * 1089 + q * 33) q (a .cores) e r
   pub none : (a .cores < q) ⊎ (32 < a .cores) ⊎ (length w ≤ t * 1089 + q * 33 + a .cores) → r ≡ q

@@ -13,6 +13,7 @@ use crate::words::EXECUTIONS;
 use crate::words::INTERNALS;
 use crate::words::REACHES;
 use offers::NONE;
+use offers::PLACES;
 use offers::first_above;
 use offers::larger;
 use offers::least_rest;
@@ -148,7 +149,7 @@ fn end_at(
     if work[REACHES + alone] < (l as u32) {
         return;
     }
-    let mut left = [0u32; 66];
+    let mut left = [0u32; PLACES];
     let start = left_from(costs, board, work, n, extra, l, q, least, &mut left);
     if cores < start {
         return;

@@ -18,7 +18,7 @@ use Rattle.walk.specs.Walk.{planOn}
 
 -- what is answered to a board and words, and what the words are afterwards. Where some plan is within the greatest threshold and the lightest
 -- within the least weigh less than what stands for none, the first of these; else nothing. The words are as lent where the board is out of range
--- or they are too few, and behind the tables in each case
+-- or they are too few; behind the tables they are as lent in each case
 pub record WalkedTo (c : Chain) (b : Board) (w w′ : List ℕ) (x : Walked) : Type 0 where
   pub least : ℕ
   pub decided : Area b w → Decided c least

@@ -18,6 +18,7 @@ pub struct Walked {
     pub plan: [u8; PLAN_BYTES],
 }
 
+// No plan, in blank bytes.
 fn nothing() -> Walked
     ensures { λ r. ⌜ (r .found ≡ false) × (r .plan ≡ encodePlan []) ⌝ }
 {

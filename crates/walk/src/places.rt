@@ -1,6 +1,6 @@
 // A module in its place: whether it may stand there, and what it weighs.
 ghost use mathlib.Core.Path.{_≡_};
-ghost use Prim.Native.Nat.{_≤_, _<_, _-_, _*_};
+ghost use Prim.Native.Nat.{_-_, _*_, _≤_, _<_};
 ghost use Rattle.modules.specs.Model.{chainOf};
 ghost use Rattle.search.specs.Best.{fitsAt};
 ghost use Rattle.slack.specs.Problem.{problem, sparingOn, price as priceOf, topThreshold, Sized, Reached, needOn};

@@ -24,7 +24,7 @@ noPlan p = unit * (p + 1)
 abbrev pub cellAt : (P s t q : ℕ) → ℕ
 cellAt P s t q = t * 1089 + (P + 1 - q) * 33 + (s - 1)
 
--- what it says there, by the words: nothing behind the last task, and where there is no such rest
+-- what stands there, by the words: nothing at the last task, and where p or q is 0 or they are more than the board's cores
 abbrev pub weightBy : Board → List ℕ → (p l q : ℕ) → ℕ
 weightBy a w p l q = cond (not (eqb l (a .tasks)) && leb 1 p && leb 1 q && leb (p + q) (a .cores)) (getD w (cellAt (a .cores) p l q) 0) 0
 

@@ -13,7 +13,8 @@ use Rattle.weights.specs.declared.lightest.Lightest.{Lightest}
 use Rattle.weights.specs.Places.{Tabled}
 use Rattle.weights.specs.Cells.{Weighed, lightOn}
 
--- at the threshold n: the tables of it, the weighed cells, the fewest cores of a plan within it and the least weight of those that have so many
+-- the tables of the threshold that is answered, the weighed cells, the fewest cores of a plan within it, and the least weight of
+-- those that have so many, or what stands for none where that is less
 pub record Lightened (c : Chain) (b : Board) (w : List ℕ) (x : Lightest) : Type 0 where
   pub tabled : Tabled c b (x .threshold) w
   pub weighed : Weighed c (x .threshold) w
@@ -22,7 +23,8 @@ pub record Lightened (c : Chain) (b : Board) (w : List ℕ) (x : Lightest) : Typ
   pub weight : x .weight ≡ lightOn c (x .threshold)
 
 -- what is answered to a board and words, and what the words are afterwards: what is laid and, where some plan is within the greatest
--- threshold, the tables of the least; or as lent where the board is out of range or the words are too few; behind the tables as lent in each case
+-- threshold, the tables of the least; where none is, no cores and no weight are answered. The words are as lent where the board is out of
+-- range or they are too few, and behind the tables in each case
 pub record LightestOf (c : Chain) (b : Board) (w w′ : List ℕ) (x : Lightest) : Type 0 where
   pub long : length w′ ≡ length w
   pub roomy : x .threshold ≤ topThreshold → Area b w

@@ -8,7 +8,7 @@ use records::Board;
 use rests::fewest_cores;
 use threshold::least_threshold;
 
-// The least threshold, and the cores and the weight of the lightest plans within it; 0 where there is none.
+// The least threshold, and the cores and the weight of the lightest plans within it, both 0 where there is none.
 pub struct Lightest {
     pub threshold: u64,
     pub cores: u8,

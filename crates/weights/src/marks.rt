@@ -2,9 +2,9 @@
 ghost use mathlib.Core.Path.{_≡_};
 ghost use Prim.Native.Nat.{_+_, _≤_, _<_};
 ghost use lib.ListN.{length, getD, set};
+ghost use Rattle.slack.specs.Greatest.{larger};
 ghost use Rattle.offers.specs.Words.{Area};
 ghost use Rattle.weights.specs.Cells.{cellAt, weightBy};
-ghost use Rattle.slack.specs.Greatest.{larger};
 use records::Board;
 use sketch::SIDE;
 use sketch::SQUARE;
@@ -49,8 +49,8 @@ pub(crate) fn weight_after(work: &mut [u32], board: Board, p: u8, l: u8, q: u8) 
     mark(work, i)
 }
 
-// What the rest weighs that comes after a module of p cores up to task l, as its cell says: nothing behind the last task, and where the board
-// has no such rest.
+// What the rest weighs that comes after a module of p cores up to task l, as its cell says: nothing behind the last task, and where p or q
+// is 0 or they are more than the board's cores.
 pub fn weight_of(work: &[u32], board: Board, p: u8, l: u8, q: u8) -> u32
     ensures { λ r. ⌜ r ≡ weightBy board (now (work .entry)) p l q ⌝ }
 {

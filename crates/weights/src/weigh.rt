@@ -2,17 +2,17 @@
 // at where it is marked, and what may come after its first module is marked with it; from the chain's end the weights are right.
 ghost use mathlib.Core.Path.{_≡_};
 ghost use mathlib.Core.Bool.{cond, _&&_};
-ghost use Prim.Native.Nat.{_+_, _≤_, _<_, _-_};
+ghost use Prim.Native.Nat.{_+_, _-_, _≤_, _<_};
 ghost use lib.ListN.{length, getD};
 ghost use lib.Dec.{ltb};
 ghost use Rattle.modules.specs.Model.{chainOf};
+ghost use Rattle.modules.specs.Rules.{copiesAllowed};
+ghost use Rattle.search.specs.Weight.{overCopies, overNext, overLast};
 ghost use Rattle.slack.specs.Problem.{problem, sparingOn, fewestOn};
 ghost use Rattle.offers.specs.Words.{tableWords};
 ghost use Rattle.threshold.specs.Words.{executionAt, internalAt, ReachedIn};
 ghost use Rattle.weights.specs.Places.{Tabled, Stands};
 ghost use Rattle.weights.specs.Cells.{Looked, Loaded, Begun};
-ghost use Rattle.modules.specs.Rules.{copiesAllowed};
-ghost use Rattle.search.specs.Weight.{overCopies, overNext, overLast};
 use crate::after::Rest;
 use crate::loads::UNIT;
 use crate::loads::at_most;

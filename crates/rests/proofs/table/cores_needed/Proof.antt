@@ -7,8 +7,8 @@ use lib.ListN.{getD}
 use Rattle.records.proofs.Cases.{lt-or-le}
 use Rattle.sketch.specs.Slacks.{slackAt}
 use borrow.Author.Needs.{needs}
-use Rattle.rests.proofs.cores_needed.Statement.{statement}
-use Rattle.rests.proofs.cores_needed.Tie as tie
+use Rattle.rests.proofs.table.cores_needed.Statement.{statement}
+use Rattle.rests.proofs.table.cores_needed.Tie as tie
 
 abbrev Inv-loop : tie.InvT-loop
 Inv-loop work board t q e at b₀ b =

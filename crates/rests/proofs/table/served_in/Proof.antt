@@ -1,8 +1,8 @@
 -- `served_in` is the definition, test by test.
 use borrow.Author.Tests.{eq-eqb, ne-eqb, le-leb, lt-leb}
 use borrow.Author.Needs.{needs}
-use Rattle.rests.proofs.served_in.Statement.{statement}
-use Rattle.rests.proofs.served_in.Tie as tie
+use Rattle.rests.proofs.table.served_in.Statement.{statement}
+use Rattle.rests.proofs.table.served_in.Tie as tie
 
 returns : tie.Need-returns
 returns c =

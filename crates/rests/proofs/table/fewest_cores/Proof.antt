@@ -6,8 +6,8 @@ use Prim.Native.Nat.{ℕ, _+_, _-_, _≤_, _<_}
 use native.Mathlib.Omega.{arith}
 use borrow.Author.Needs.{needs}
 use Rattle.sketch.specs.Slacks.{Slacked}
-use Rattle.rests.proofs.fewest_cores.Statement.{statement}
-use Rattle.rests.proofs.fewest_cores.Tie as tie
+use Rattle.rests.proofs.table.fewest_cores.Statement.{statement}
+use Rattle.rests.proofs.table.fewest_cores.Tie as tie
 
 abbrev Inv-loop : tie.InvT-loop
 Inv-loop work cores b₀ b =
