@@ -1,6 +1,8 @@
 // What the programs share (document 01, the program `plan`): taking in standard input, and the text of an answer.
 //
 // No public function has a `requires`, and each text is promised by an equation with a definition of `specs/Text.antt`.
+#![tactic(auto)]
+
 mod intake;
 mod lines;
 mod words;
@@ -9,7 +11,7 @@ pub use intake::take_in;
 pub use lines::{refused, report, too_long};
 
 // What came on standard input: how many bytes the file took, and whether more came than it holds.
-#[derive(Drop)]
+#[derive(Clone, Copy)]
 pub struct Input {
     pub length: usize,
     pub longer: bool,
@@ -19,7 +21,7 @@ pub struct Input {
 const ROOM: usize = 2048;
 
 // A text: so many of the bytes, from the first on. What lies behind them is no part of it.
-#[derive(Drop)]
+#[derive(Clone, Copy)]
 pub struct Text {
     pub bytes: [u8; ROOM],
     pub length: usize,

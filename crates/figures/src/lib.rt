@@ -3,13 +3,15 @@
 //
 // Whatever lies above takes every figure of a plan from here. No public function has a `requires`: each answers for all bytes, boards
 // and numbers.
+#![tactic(auto)]
+
 mod plan;
 
 pub use plan::{block_time, cores_used, figures, refuse, response};
 
 // The answer of each service: a refusal's number (0: none) and place, or the plan's count of modules, its cores, and of its
 // bottleneck the number of the module, counted from 1, its response and its copies. A refusal has zero figures.
-#[derive(Drop)]
+#[derive(Clone, Copy)]
 pub struct Answer {
     pub number: u32,
     pub place: u32,
@@ -21,7 +23,7 @@ pub struct Answer {
 }
 
 // A module by its number in a plan, counted from 1, with its response and its copies.
-#[derive(Drop)]
+#[derive(Clone, Copy)]
 pub struct Slowest {
     pub number: u32,
     pub response: u64,

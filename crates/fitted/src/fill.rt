@@ -12,7 +12,7 @@ use laws::{Cost, EXTERNAL, cost_at, law_at};
 use records::{Filled, MOST_VALUE, count, read_board};
 
 // Bytes a and b of a cost's record.
-#[derive(Drop)]
+#[derive(Clone, Copy)]
 struct Cell {
     a: u8,
     b: u8,

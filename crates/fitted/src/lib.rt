@@ -2,6 +2,8 @@
 // records.
 //
 // No public function has a `requires`: each answers for every slice and every number.
+#![tactic(auto)]
+
 mod fill;
 mod first;
 mod order;

@@ -14,7 +14,7 @@ use modules::Module;
 use records::Board;
 
 // The best candidate so far for one core more: whether there is one, its bottleneck and its assignment.
-#[derive(Drop)]
+#[derive(Clone, Copy)]
 pub(crate) struct Choice {
     pub found: bool,
     pub time: u64,

@@ -2,6 +2,8 @@
 // document 02, M-100.
 //
 // It fills the lent plan bytes and answers with the plan's figures, or refuses by number and leaves them as they came.
+#![tactic(auto)]
+
 mod greedy;
 
 pub use greedy::greedy_plan;

@@ -2,6 +2,8 @@
 // in it and nothing else; what is worked out here only makes fewer tries likely.
 //
 // No public function has a `requires`: each answers for all bytes, boards and numbers.
+#![tactic(auto)]
+
 mod bounds;
 mod choice;
 
@@ -20,7 +22,7 @@ pub const GRAIN: u64 = 1024;
 // The search so far: no plan is within a threshold below lo; some plan is within hi, or hi is TOP + 1. All else is for guesses: what no
 // plan, most likely, is below, and the threshold of the best plan of one module; the fewest cores of a plan within hi, and the tries
 // without a plan and with one since the last other.
-#[derive(Drop)]
+#[derive(Clone, Copy)]
 pub struct Hunt {
     pub lo: u64,
     pub hi: u64,

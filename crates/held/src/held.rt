@@ -9,7 +9,7 @@ use lookups::{
 };
 
 // The records of a file in the caller's bytes, with its tasks and cores.
-#[derive(Drop)]
+#[derive(Clone, Copy)]
 pub struct Costs<'a> {
     pub records: &'a [u8],
     pub tasks: u8,

@@ -2,6 +2,8 @@
 // looked up there). The layers above look every cost up by `need` and the like, which go by way of the struct.
 //
 // No public function has a `requires`: each answers for every slice, board and number.
+#![tactic(auto)]
+
 mod boards;
 mod held;
 

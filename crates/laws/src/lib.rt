@@ -2,6 +2,8 @@
 // states, whether it is the law that is due, and what a law gives.
 //
 // No public function has a `requires`: each answers for every slice and every number.
+#![tactic(auto)]
+
 mod form;
 mod value;
 
@@ -9,7 +11,7 @@ pub use form::{EXTERNAL, LAW_BYTES, cost_at, law_meets};
 pub use value::law_at;
 
 // The law that a cost follows: constant, or of three or five terms, by its coefficients.
-#[derive(Drop)]
+#[derive(Clone, Copy)]
 pub enum Law {
     Constant(u32),
     Three {
@@ -27,7 +29,7 @@ pub enum Law {
 }
 
 // A cost: a task's execution (kind 3), or the internal (4) or external (5) transfer from it to the next one, with its law.
-#[derive(Drop)]
+#[derive(Clone, Copy)]
 pub struct Cost {
     pub kind: u8,
     pub task: u8,

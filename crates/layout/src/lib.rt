@@ -1,5 +1,7 @@
 // Plan bytes (document 01, "Plan bytes"): how a plan's modules are laid out. No public function has a `requires`: each answers for all
 // bytes and numbers.
+#![tactic(auto)]
+
 mod layout;
 
 pub use layout::{module_at, module_count, put_module, put_plan};

@@ -2,6 +2,8 @@
 //
 // No public function has a `requires`: each answers for every slice and every number. Tasks and cores are counted from 1, in one
 // byte each, so that no place in a file can overflow.
+#![tactic(auto)]
+
 mod lookup;
 
 pub use lookup::{

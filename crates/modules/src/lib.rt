@@ -3,6 +3,8 @@
 //
 // Whatever lies above takes every cost and test of a module from here. No public function has a `requires`: each answers for all
 // bytes, boards and numbers. A task, a count of copies and a count of cores are one byte each, as in plan bytes.
+#![tactic(auto)]
+
 mod cost;
 mod reaching;
 mod rules;
@@ -12,7 +14,7 @@ pub use reaching::read_reach;
 pub use rules::{copies_allowed, fewest_cores, memory_fits, rules_met, still_kept, within_limit};
 
 // A module of a plan: an unbroken run of tasks, first to last, in r copies of p cores each.
-#[derive(Drop)]
+#[derive(Clone, Copy)]
 pub struct Module {
     pub first: u8,
     pub last: u8,

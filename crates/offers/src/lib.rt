@@ -1,6 +1,8 @@
 // What modules that end with one task leave to those before them, by the slacks of the rests after it (docs/THRESHOLD.md).
 //
 // No public function has a `requires`: each answers for all bytes, boards and words. The promises stand in specs/Leaving.antt and Words.antt.
+#![tactic(auto)]
+
 mod ends;
 mod leave;
 mod words;

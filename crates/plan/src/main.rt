@@ -1,4 +1,6 @@
 // The program `plan` (document 01, "A small dock"): cost records on standard input, the text of Best plan's answer on standard output.
+#![tactic(auto)]
+
 ghost use Rattle.std.specs.Prelude.{◌≡◌};
 ghost use Rattle.io.specs.Counts.{IsPrefixLen};
 ghost use Rattle.console.specs.Text.{text_of};

@@ -2,6 +2,8 @@
 // time (document 02, M-104), then first in module order.
 //
 // It fills the lent plan bytes and answers with the plan's figures, or refuses by number and leaves them as they came.
+#![tactic(auto)]
+
 mod best;
 
 pub use best::best_plan;

@@ -5,6 +5,8 @@
 //
 // `read` says whether a byte string is a board's costs, or which of refusals 1 to 6 is due; `read_board` asks the length and the
 // first record only, refusals 1 to 3. No public function has a `requires`: each answers for every slice and every number.
+#![tactic(auto)]
+
 mod keys;
 mod runs;
 mod scan;
@@ -13,7 +15,7 @@ pub use keys::{MOST_CORES, MOST_VALUE, count, fault};
 pub use scan::{MOST_TASKS, read, read_board};
 
 // The board of document 01: its k tasks, its P cores and the capacity of a core in KiB.
-#[derive(Drop)]
+#[derive(Clone, Copy)]
 pub struct Board {
     pub tasks: u8,
     pub cores: u8,
@@ -21,7 +23,7 @@ pub struct Board {
 }
 
 // What reading finds: number 0 and the board, or the number of a refusal with its place and a board of zeros.
-#[derive(Drop)]
+#[derive(Clone, Copy)]
 pub struct Reading {
     pub number: u32,
     pub place: u32,
@@ -29,7 +31,7 @@ pub struct Reading {
 }
 
 // A refusal's number and place, or 0 and 0 for none.
-#[derive(Drop)]
+#[derive(Clone, Copy)]
 pub struct Refusal {
     pub number: u32,
     pub place: u32,
@@ -39,7 +41,7 @@ pub struct Refusal {
 // refusal's number and place, with count 0. For a reach (document 02, M-102) the count is the reach, for a
 // single-block time (M-104) the time.
 #[repr(C)]
-#[derive(Drop)]
+#[derive(Clone, Copy)]
 pub struct Filled {
     pub refusal: u32,
     pub place: u32,
@@ -47,7 +49,7 @@ pub struct Filled {
 }
 
 // What the first four bytes of a record are to be.
-#[derive(Drop)]
+#[derive(Clone, Copy)]
 pub struct Key {
     pub kind: u32,
     pub task: u32,

@@ -2,6 +2,8 @@
 // plan.
 //
 // No public function has a `requires`: each answers for all boards, words and numbers.
+#![tactic(auto)]
+
 mod table;
 
 pub use table::{cores_needed, fewest_cores, served_in};

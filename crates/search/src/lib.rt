@@ -12,3 +12,4 @@
 //   proofs/Tiers.antt    where the price is a unit for each core and a measure below it: cores decide, and then that measure
 //   proofs/Sparing.antt  the first of the lightest plans within a threshold, found among modules of plans of the fewest cores
 // For the program's loops: proofs/Loops.antt and Cheapest.antt (one cell), Steps.antt (the walk).
+#![tactic(auto)]

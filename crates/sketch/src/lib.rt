@@ -2,6 +2,8 @@
 // make it a plan with a bottleneck of its own, and that is what is answered.
 //
 // No public function has a `requires`: each answers for all bytes, boards, words and numbers.
+#![tactic(auto)]
+
 mod judged;
 mod onward;
 mod slacks;
@@ -16,7 +18,7 @@ pub const SIDE: usize = 33;
 
 // A threshold that some plan is within, guess::TOP + 1 where none was read off; and the fewest cores with which the table has a plan, a hint
 // for the next guess of which nothing is promised.
-#[derive(Drop)]
+#[derive(Clone, Copy)]
 pub struct Found {
     pub threshold: u64,
     pub cores: u8,

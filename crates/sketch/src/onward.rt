@@ -15,7 +15,7 @@ const NONE: u32 = 4294967295;
 
 // How a plan goes on: the last task and the copies of its next module, 0 copies where there is none, and the cores of the one after it, 0
 // at the end of the chain.
-#[derive(Drop)]
+#[derive(Clone, Copy)]
 pub(crate) struct Onward {
     pub last: u8,
     pub copies: u8,

@@ -16,3 +16,4 @@
 //   proofs/Enough.antt    `enough_tells`: the slack says just where there is a rest of so many cores
 // For the programs' loops: proofs/After.antt (one cell, over a module's last task), Cheapest.antt (a row of words from which the cheapest
 // transfers are read), Offers.antt (what copies leave), Growing.antt (a module that grows by a task), Greatest.antt.
+#![tactic(auto)]

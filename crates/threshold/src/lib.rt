@@ -6,6 +6,8 @@
 //
 // No public function has a `requires`: each answers for all bytes, boards and words. The promise of `least_threshold` is `Searched` of
 // specs/Threshold.antt.
+#![tactic(auto)]
+
 mod fill;
 mod hunt;
 mod lay;

@@ -3,6 +3,8 @@
 // request's conditions as direct statements specs/Machine.antt and specs/Claims.antt, and the theorems proofs/Theorems.antt.
 //
 // The public function has no `requires`: it answers for every slice and every number.
+#![tactic(auto)]
+
 mod service;
 mod stream;
 

@@ -11,7 +11,7 @@ use records::Board;
 use weights::{UNIT, lightest_plans};
 
 // Plan bytes, and whether there is a plan in them: they are blank where there is none.
-#[derive(Drop)]
+#[derive(Clone, Copy)]
 pub struct Walked {
     pub found: bool,
     pub plan: [u8; PLAN_BYTES],

@@ -2,6 +2,8 @@
 // left. Its plan is the first of the lightest within the least threshold.
 //
 // No public function has a `requires`: `first_plan` answers for all bytes, boards and words. Its promise is `WalkedTo` of specs/First.antt.
+#![tactic(auto)]
+
 mod first;
 mod next;
 mod path;

@@ -9,7 +9,7 @@ use records::Board;
 
 // The module that the walk has passed: in its place, with its copies and cores, what was left for it and all after it, and how many of the
 // fewest cores it spares. A whole plan has so many.
-#[derive(Drop)]
+#[derive(Clone, Copy)]
 pub(crate) struct Passed {
     pub before: u8,
     pub from: u8,

@@ -9,7 +9,7 @@ use rests::cores_needed;
 
 // A rest of the plan: after a module of `before` cores and the task `from`, its first module having `cores`. It receives in so many ticks,
 // and has so many cores left.
-#[derive(Drop)]
+#[derive(Clone, Copy)]
 pub(crate) struct Rest {
     pub before: u8,
     pub from: u8,

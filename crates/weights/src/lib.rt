@@ -3,6 +3,8 @@
 //
 // No public function has a `requires`: each answers for all bytes, boards and words. The promise of `lightest_plans` is `LightestOf` of
 // specs/Lightest.antt.
+#![tactic(auto)]
+
 mod after;
 mod lightest;
 mod loads;

@@ -10,7 +10,7 @@ use rests::fewest_cores;
 use threshold::least_threshold;
 
 // The least threshold, and the cores and the weight of the lightest plans within it, both 0 where there is none.
-#[derive(Drop)]
+#[derive(Clone, Copy)]
 pub struct Lightest {
     pub threshold: u64,
     pub cores: u8,

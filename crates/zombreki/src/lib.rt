@@ -4,6 +4,8 @@
 //
 // A slice crosses as a pointer and a count of elements. No function has a `requires`: each answers for every content and length.
 // include/zombreki.h declares them for C, and says what no proof covers.
+#![tactic(auto)]
+
 ghost use Rattle.std.specs.Prelude.{◌≡◌, ◌<◌};
 ghost use Rattle.modules.specs.Reach.{reach_answer};
 ghost use Rattle.judge.specs.Judge.{judged};
@@ -19,7 +21,7 @@ use records::Filled;
 // A refusal's number (0 for none) and place, or the plan's count of modules, its cores, and of its bottleneck the number of the
 // module, counted from 1, its response and its copies. A refusal has zero figures.
 #[repr(C)]
-#[derive(Drop)]
+#[derive(Clone, Copy)]
 pub struct Answer {
     pub refusal: u32,
     pub place: u32,

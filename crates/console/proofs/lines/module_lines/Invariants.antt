@@ -1,0 +1,17 @@
+-- `module_lines` is `module_lines`: after each turn one line more stands at the end.
+use mathlib.Core.Path.{◌≡◌, sym, ◌∙◌}
+use Prim.Native.Nat.{◌-◌, ◌*◌, ◌≤◌}
+use native.Mathlib.Omega.{arith}
+use borrow.Author.Rules.{rules}
+use Rattle.modules.specs.Model.{chain_of}
+use Rattle.console.specs.Text.{text_of, module_lines}
+use Rattle.console.specs.Room.{line_room}
+use Rattle.console.proofs.Reported.{lines_none, lines_more}
+use Rattle.console.proofs.lines.module_lines.Given as goal
+
+abbrev pub invariant-loop-i : goal.invariant-loop-i
+invariant-loop-i l =
+    (l.i ≤ l.count) × (text_of l.t ≡ module_lines (chain_of l.costs l.board) l.plan l.i) × (l.t.length ≤ l.i * line_room)
+
+abbrev pub decreases-loop-i : goal.decreases-loop-i
+decreases-loop-i l = l.count - l.i

@@ -1,0 +1,10 @@
+-- `spaced` appends the number and the space, one piece after the other.
+use mathlib.Core.List.{append_assoc}
+use native.Mathlib.Omega.{arith}
+use borrow.Author.Rules.{rules}
+use Rattle.console.specs.Text.{spaced}
+use Rattle.console.proofs.words.spaced.Goals as goal
+
+pub returns : goal.returns
+unfolding spaced
+returns c = (rw (c.with_text.ensures.0, c.with_number-written.ensures.0) (simp append_assoc), omega arith)

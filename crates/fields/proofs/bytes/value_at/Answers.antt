@@ -1,0 +1,10 @@
+-- `value_at` is `value_at`, whichever way the bytes are read.
+use Rattle.fields.specs.Fields.{value_at}
+use Rattle.fields.proofs.bytes.value_at.Goals as goal
+
+pub returns-then-start-costs : goal.returns-then-start-costs
+unfolding value_at
+returns-then-start-costs c = c.value_inside.ensures
+
+pub returns : goal.returns
+returns c = c.value_cut.ensures

@@ -1,0 +1,18 @@
+-- `cores_before` is `cores_before`: the record before the i-th is the one at i - 1.
+use mathlib.Core.Path.{sym}
+use Prim.Native.Nat.{◌-◌}
+use native.Mathlib.Omega.{arith}
+use Rattle.layout.proofs.Turns.{record_here}
+use Rattle.figures.specs.Plan.{cores_before}
+use Rattle.figures.proofs.Listed.{cores_before_some}
+use borrow.Author.Rules.{rules}
+use Rattle.figures.proofs.plan.cores_before.Goals as goal
+
+pub returns-then-i-eq0 : goal.returns-then-i-eq0
+unfolding cores_before
+returns-then-i-eq0 c = simp c.if-i-eq0.true
+
+pub returns : goal.returns
+returns c = 
+    let a = c.args in
+    rw (c.module_at-m.ensures, record_here a.plan.now (a.i - 1) (omega arith)) (sym (cores_before_some a.plan.now a.i (omega arith)))

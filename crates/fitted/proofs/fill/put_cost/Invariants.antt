@@ -1,0 +1,20 @@
+-- `put_cost` writes the records of a cost. The loop's invariant: the records from j on, written behind those that are, make the
+-- whole.
+use mathlib.Core.Path.{◌≡◌, refl, sym, ◌∙◌}
+use Prim.Native.Nat.{◌+◌, ◌-◌, ◌*◌, ◌≤◌}
+use native.Mathlib.Omega.{arith}
+use borrow.Author.Rules.{rules}
+use lib.ListN.{length, drop}
+use lib.Seq.{sets}
+use Rattle.fitted.specs.Fill.{cost_keys, value_by, records_of, cost_records}
+use Rattle.fitted.proofs.Keys.{cost_count_lem}
+use Rattle.fitted.proofs.Walks.{value_at, within_at, put_next, put_end}
+use Rattle.fitted.proofs.fill.put_cost.Given as goal
+
+abbrev pub invariant-loop-j : goal.invariant-loop-j
+invariant-loop-j l =
+    (l.j ≤ l.total) × (length l.out ≡ length l.initial.out)
+    × (sets l.initial.out (8 * l.n) (cost_records l.cost l.p) ≡ sets l.out (8 * (l.n + l.j)) (records_of (value_by l.cost.law) (drop l.j (cost_keys l.cost.kind l.cost.task l.p))))
+
+abbrev pub decreases-loop-j : goal.decreases-loop-j
+decreases-loop-j l = l.total - l.j

@@ -1,0 +1,16 @@
+-- `put_start` fills in the start, module by module; no module needs more than 33 cores, so the sum is at most 33 a module.
+use mathlib.Core.Path.{◌≡◌, refl, ◌∙◌}
+use Prim.Native.Nat.{◌+◌, ◌-◌, ◌*◌, ◌≤◌, ◌<◌}
+use native.Mathlib.Omega.{arith}
+use lib.ListN.{length}
+use Rattle.modules.specs.Model.{chain_of}
+use Rattle.greedy.proofs.Filling.{Filled, fill_none, fill_more, fill_all}
+use Rattle.greedy.proofs.Starting.{fewest_range}
+use Rattle.greedy.proofs.greedy.put_start.Given as goal
+
+abbrev pub invariant-loop-first : goal.invariant-loop-first
+invariant-loop-first l =
+    (l.i < l.first) × (l.first ≤ l.k + 1) × (l.sum ≤ 33 * l.i) × (length l.plan ≡ length l.initial.plan) × Filled (chain_of l.costs l.board) l.grouping l.i l.first l.sum l.plan
+
+abbrev pub decreases-loop-first : goal.decreases-loop-first
+decreases-loop-first l = l.k + 1 - l.first

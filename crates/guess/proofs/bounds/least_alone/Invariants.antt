@@ -1,0 +1,12 @@
+-- `least_alone` starts from the greatest threshold plus one, and only takes less.
+use Prim.Native.Nat.{◌+◌, ◌-◌, ◌≤◌}
+use native.Mathlib.Omega.{arith}
+use borrow.Author.Rules.{rules}
+use Rattle.slack.specs.Problem.{top_threshold}
+use Rattle.guess.proofs.bounds.least_alone.Given as goal
+
+abbrev pub invariant-loop-q : goal.invariant-loop-q
+invariant-loop-q l = l.least ≤ top_threshold + 1
+
+abbrev pub decreases-loop-q : goal.decreases-loop-q
+decreases-loop-q l = l.board.cores - l.q

@@ -1,0 +1,19 @@
+-- `rule_fault` is `first_failing` of `rule_test`: what is found from the i-th module on is what is found from the first one on.
+use mathlib.Core.Path.{◌≡◌, sym, ◌∙◌}
+use Prim.Native.Nat.{◌+◌, ◌-◌, ◌≤◌}
+use native.Mathlib.Nat.{sub-zero}
+use native.Mathlib.Omega.{arith}
+use Rattle.modules.specs.Model.{chain_of}
+use Rattle.layout.specs.Layout.{modules_from, modules_of}
+use Rattle.layout.proofs.Turns.{record_here}
+use Rattle.judge.specs.Judge.{first_failing, rule_test}
+use Rattle.judge.proofs.Turns.{failing_here, failing_next, failing_end}
+use Rattle.judge.proofs.verdict.rule_fault.Given as goal
+
+abbrev pub invariant-loop-i : goal.invariant-loop-i
+invariant-loop-i l =
+    let f = rule_test (chain_of l.costs l.board) l.number in
+    (l.i ≤ l.count) × (first_failing f 1 (modules_of l.plan l.board.tasks) ≡ first_failing f (l.i + 1) (modules_from l.plan l.i (l.count - l.i)))
+
+abbrev pub decreases-loop-i : goal.decreases-loop-i
+decreases-loop-i l = l.count - l.i

@@ -1,0 +1,7 @@
+-- `coefficient_at` is `coefficient`.
+use Rattle.laws.specs.Form.{coefficient}
+use Rattle.laws.proofs.form.coefficient_at.Goals as goal
+
+pub returns : goal.returns
+unfolding coefficient
+returns c = rw (← c.wide-start.ensures.0) c.number_at.ensures

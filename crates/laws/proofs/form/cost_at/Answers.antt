@@ -1,0 +1,8 @@
+-- `cost_at` is `cost_at`, field by field.
+use mathlib.Core.Path.{refl}
+use Rattle.laws.specs.Form.{cost_at}
+use Rattle.laws.proofs.form.cost_at.Goals as goal
+
+pub returns : goal.returns
+unfolding cost_at
+returns c = rw (c.law_byte-kind.ensures.0, c.law_byte-task.ensures.0, c.law_of-law.ensures) (refl)

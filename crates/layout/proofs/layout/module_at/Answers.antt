@@ -1,0 +1,13 @@
+-- `module_at` is `record_of`: the test of the index decides which branch is due.
+use borrow.Author.Tests.{lt-ltb, le-ltb}
+use borrow.Author.Rules.{rules}
+use Rattle.layout.specs.Layout.{record_of}
+use Rattle.layout.proofs.layout.module_at.Goals as goal
+
+pub returns-then-i-lt-MOST_MODULES : goal.returns-then-i-lt-MOST_MODULES
+unfolding record_of
+returns-then-i-lt-MOST_MODULES c = simp (lt-ltb _ _ c.if-i-lt-MOST_MODULES.true) c.record_at.ensures
+
+pub returns : goal.returns
+unfolding record_of
+returns c = simp (le-ltb _ _ c.if-i-lt-MOST_MODULES.false)

@@ -1,0 +1,36 @@
+-- `put_module` is `put_module`: the tests are the definition's, and its four stores are a run of stores.
+use mathlib.Core.Path.{◌≡◌}
+use mathlib.Core.Bool.{and-false}
+use Prim.Native.Nat.{suc, ◌+◌, ◌*◌}
+use native.Mathlib.Omega.{arith}
+use lib.ListN.{length-set}
+use borrow.Author.Tests.{lt-ltb, le-ltb, le-leb, lt-leb}
+use Rattle.layout.specs.Layout.{most_modules, put_module}
+use borrow.Author.Rules.{rules}
+use Rattle.layout.proofs.layout.put_module.Goals as goal
+
+pub bounds-plan-at-then-plan-ge-PLAN_BYTES : goal.bounds-plan-at-then-plan-ge-PLAN_BYTES
+bounds-plan-at-then-plan-ge-PLAN_BYTES c = simp length-set (omega arith)
+
+pub bounds-plan-at-then-plan-ge-PLAN_BYTES-2 : goal.bounds-plan-at-then-plan-ge-PLAN_BYTES-2
+bounds-plan-at-then-plan-ge-PLAN_BYTES-2 c = simp length-set (omega arith)
+
+pub bounds-plan-at-then-plan-ge-PLAN_BYTES-3 : goal.bounds-plan-at-then-plan-ge-PLAN_BYTES-3
+bounds-plan-at-then-plan-ge-PLAN_BYTES-3 c = simp length-set (omega arith)
+
+pub returns-then-plan-ge-PLAN_BYTES : goal.returns-then-plan-ge-PLAN_BYTES
+unfolding put_module
+returns-then-plan-ge-PLAN_BYTES c = 
+    let i = c.args.i in
+    let e₁ : 4 * i + 1 ≡ suc (4 * i) = omega arith in
+    let e₂ : 4 * i + 2 ≡ suc (suc (4 * i)) = omega arith in
+    let e₃ : 4 * i + 3 ≡ suc (suc (suc (4 * i))) = omega arith in
+    simp (lt-ltb i most_modules c.if-i-lt-MOST_MODULES.true, le-leb _ _ c.if-plan-ge-PLAN_BYTES.true, e₁, e₂, e₃)
+
+pub returns-else-plan-ge-PLAN_BYTES : goal.returns-else-plan-ge-PLAN_BYTES
+unfolding put_module
+returns-else-plan-ge-PLAN_BYTES c = simp (lt-leb _ _ c.if-plan-ge-PLAN_BYTES.false, and-false)
+
+pub returns-else-i-lt-MOST_MODULES : goal.returns-else-i-lt-MOST_MODULES
+unfolding put_module
+returns-else-i-lt-MOST_MODULES c = simp (le-ltb _ _ c.if-i-lt-MOST_MODULES.false)

@@ -1,0 +1,11 @@
+-- `limit_at` is `limit_of`: the test decides which branch of it is due.
+use Rattle.lookups.specs.Lookups.{limit_of}
+use Rattle.lookups.proofs.lookup.limit_at.Goals as goal
+
+pub returns-then-is_within : goal.returns-then-is_within
+unfolding limit_of
+returns-then-is_within c = simp (← c.is_within.ensures, c.if-is_within.true) (rw (← c.wide.ensures.0) c.byte_at.ensures.0)
+
+pub returns-else-is_within : goal.returns-else-is_within
+unfolding limit_of
+returns-else-is_within c = simp (← c.is_within.ensures, c.if-is_within.false)

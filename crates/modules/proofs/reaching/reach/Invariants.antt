@@ -1,0 +1,17 @@
+-- `reach` is the definition of that name: what is found up to the task before is the reach of a chain that ends there, and the first module
+-- that needs more cores than the board has ends the search.
+use mathlib.Core.Path.{◌≡◌, sym, ◌∙◌}
+use Prim.Native.Nat.{◌+◌, ◌-◌, ◌≤◌}
+use native.Mathlib.Omega.{arith}
+use borrow.Author.Rules.{rules}
+use Rattle.modules.specs.Model.{chain_of}
+use Rattle.modules.specs.Reach.{reach_of}
+use Rattle.modules.proofs.Longest.{reach_zero, reach_nothing, reach_more, reach_stops, reach_ends}
+use Rattle.modules.proofs.reaching.reach.Given as goal
+
+abbrev pub invariant-loop-before : goal.invariant-loop-before
+invariant-loop-before l =
+    (l.first ≤ l.before + 1) × (l.before + 1 - l.first ≤ l.board.tasks + 1 - l.first) × (l.end ≡ reach_of (chain_of l.costs l.board) l.first (l.before + 1 - l.first))
+
+abbrev pub decreases-loop-before : goal.decreases-loop-before
+decreases-loop-before l = l.board.tasks - l.before

@@ -1,0 +1,16 @@
+-- `fewest_cores` is `fewest_cores`: what the search from p on finds is what the whole search finds.
+use mathlib.Core.Path.{◌≡◌, sym, ◌∙◌}
+use Prim.Native.Nat.{◌-◌, ◌≤◌}
+use native.Mathlib.Nat.{sub-zero}
+use native.Mathlib.Omega.{arith}
+use Rattle.modules.specs.Model.{chain_of}
+use Rattle.modules.specs.Rules.{fewest_cores, fewest_from}
+use Rattle.modules.proofs.Fewest.{fewest_here, fewest_next, fewest_end}
+use Rattle.modules.proofs.rules.fewest_cores.Given as goal
+
+abbrev pub invariant-loop-p : goal.invariant-loop-p
+invariant-loop-p l =
+    (l.p ≤ l.cores) × (fewest_cores (chain_of l.costs l.board) l.first l.last ≡ fewest_from (chain_of l.costs l.board) l.first l.last l.p (l.cores - l.p))
+
+abbrev pub decreases-loop-p : goal.decreases-loop-p
+decreases-loop-p l = l.cores - l.p

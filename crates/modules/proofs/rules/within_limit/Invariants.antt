@@ -1,0 +1,16 @@
+-- `within_limit` is `within_limit`: while each task allows the cores, what is left decides as the whole does.
+use mathlib.Core.Path.{◌≡◌, refl, sym, ◌∙◌}
+use Prim.Native.Nat.{◌-◌, ◌≤◌}
+use native.Mathlib.Omega.{arith}
+use borrow.Author.Tests.{not-true, not-false}
+use Rattle.modules.specs.Model.{chain_of}
+use Rattle.modules.specs.Rules.{within_limit}
+use Rattle.modules.proofs.Limiting.{within_none, within_next, within_not, within_last}
+use Rattle.modules.proofs.rules.within_limit.Given as goal
+
+abbrev pub invariant-loop-t : goal.invariant-loop-t
+invariant-loop-t l =
+    (l.first ≤ l.t) × (l.t ≤ l.last) × (within_limit (chain_of l.costs l.board) l.first l.last l.p ≡ within_limit (chain_of l.costs l.board) l.t l.last l.p)
+
+abbrev pub decreases-loop-t : goal.decreases-loop-t
+decreases-loop-t l = l.last - l.t

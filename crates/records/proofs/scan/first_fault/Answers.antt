@@ -1,0 +1,85 @@
+-- `first_fault` is `first_fault` of the due keys: the walk goes on behind each kind that is clean, and the file has the records.
+use mathlib.Core.Path.{sym, ◌∙◌}
+use Prim.Native.Nat.{◌<◌}
+use native.Mathlib.Omega.{arith}
+use Rattle.records.specs.Costs.{count_of}
+use Rattle.records.proofs.Along.{tasks_found, tasks_clean, executions_found, executions_clean, internals_found, internals_clean}
+use Rattle.records.proofs.Bounds.{place_bound}
+use Rattle.records.proofs.scan.first_fault.Goals as goal
+
+pub returns-then-task-ne0 : goal.returns-then-task-ne0
+returns-then-task-ne0 c =
+    let v = c.args in
+    tasks_found v.costs.now v.k v.p c.task_records-task.ensures c.if-task-ne0.true
+
+pub rows-execution-requires : goal.rows-execution-requires
+unfolding count_of
+rows-execution-requires c =
+    let v = c.args in
+    let long = c.requires.1 in
+    let k : v.k < 256 = omega arith in
+    let p : v.p < 256 = omega arith in
+    omega (arith, place_bound k p k)
+
+pub returns-then-execution-ne0 : goal.returns-then-execution-ne0
+returns-then-execution-ne0 c =
+    let v = c.args in
+    let tasks = tasks_clean v.costs.now v.k v.p c.task_records-task.ensures c.if-task-ne0.false in
+    executions_found v.costs.now v.k v.p tasks c.rows-execution.ensures c.if-execution-ne0.true
+
+pub overflow_add-executed : goal.overflow_add-executed
+unfolding count_of
+overflow_add-executed c =
+    let v = c.args in
+    let long = c.requires.1 in
+    let k : v.k < 256 = omega arith in
+    let p : v.p < 256 = omega arith in
+    omega (arith, place_bound k p k)
+
+pub overflow_mul-executed : goal.overflow_mul-executed
+overflow_mul-executed c = omega (arith, overflow_add-executed c)
+
+pub rows-internal-requires : goal.rows-internal-requires
+unfolding count_of
+rows-internal-requires c =
+    let v = c.args in
+    let long = c.requires.1 in
+    let k : v.k < 256 = omega arith in
+    let p : v.p < 256 = omega arith in
+    omega (arith, place_bound k p k)
+
+pub returns-then-internal-ne0 : goal.returns-then-internal-ne0
+returns-then-internal-ne0 c =
+    let v = c.args in
+    let tasks = tasks_clean v.costs.now v.k v.p c.task_records-task.ensures c.if-task-ne0.false in
+    let executions = executions_clean v.costs.now v.k v.p tasks c.rows-execution.ensures c.if-execution-ne0.false in
+    internals_found v.costs.now v.k v.p executions c.rows-internal.ensures c.if-internal-ne0.true
+
+pub overflow_add-executed-2 : goal.overflow_add-executed-2
+unfolding count_of
+overflow_add-executed-2 c =
+    let v = c.args in
+    let long = c.requires.1 in
+    let k : v.k < 256 = omega arith in
+    let p : v.p < 256 = omega arith in
+    omega (arith, place_bound k p k)
+
+pub overflow_mul-pairs : goal.overflow_mul-pairs
+overflow_mul-pairs c = omega (arith, overflow_add-executed-2 c)
+
+pub squares-requires : goal.squares-requires
+unfolding count_of
+squares-requires c =
+    let v = c.args in
+    let long = c.requires.1 in
+    let k : v.k < 256 = omega arith in
+    let p : v.p < 256 = omega arith in
+    omega (arith, place_bound k p k)
+
+pub returns : goal.returns
+returns c =
+    let v = c.args in
+    let tasks = tasks_clean v.costs.now v.k v.p c.task_records-task.ensures c.if-task-ne0.false in
+    let executions = executions_clean v.costs.now v.k v.p tasks c.rows-execution.ensures c.if-execution-ne0.false in
+    let internals = internals_clean v.costs.now v.k v.p executions c.rows-internal.ensures c.if-internal-ne0.false in
+    c.squares.ensures ∙ sym internals

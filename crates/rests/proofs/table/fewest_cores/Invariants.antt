@@ -1,0 +1,15 @@
+-- `fewest_cores` finds the fewest: no fewer leave a slack.
+use mathlib.Core.Path.{◌≡◌, refl}
+use mathlib.Core.Logic.{⊎_elim}
+use Rattle.records.proofs.Cases.{lt_or_le}
+use Prim.Native.Nat.{ℕ, ◌+◌, ◌-◌, ◌≤◌, ◌<◌}
+use native.Mathlib.Omega.{arith}
+use borrow.Author.Rules.{rules}
+use Rattle.sketch.specs.Slacks.{Slacked}
+use Rattle.rests.proofs.table.fewest_cores.Given as goal
+
+abbrev pub invariant-loop-b : goal.invariant-loop-b
+invariant-loop-b l = (1 ≤ l.b) × (l.b ≤ l.cores + 1) × ((j : ℕ) → j < l.b → Slacked l.work j → ⊥)
+
+abbrev pub decreases-loop-b : goal.decreases-loop-b
+decreases-loop-b l = l.cores + 1 - l.b

@@ -1,0 +1,20 @@
+-- `copied_at` is `first_failing` of `single_test`: what is found from the i-th module on is what is found from the first one on.
+use mathlib.Core.Path.{◌≡◌, refl, sym, ◌∙◌}
+use Prim.Native.Nat.{◌+◌, ◌-◌, ◌≤◌}
+use native.Mathlib.Nat.{sub-zero}
+use native.Mathlib.Omega.{arith}
+use borrow.Author.Rules.{rules}
+use borrow.Author.Tests.{le-leb, lt-leb}
+use Rattle.layout.specs.Layout.{modules_from}
+use Rattle.layout.proofs.Turns.{record_here}
+use Rattle.judge.specs.Judge.{first_failing}
+use Rattle.judge.proofs.Turns.{failing_here, failing_next, failing_end}
+use Rattle.timetable.specs.Timetable.{single_test}
+use Rattle.timetable.proofs.service.copied_at.Given as goal
+
+abbrev pub invariant-loop-i : goal.invariant-loop-i
+invariant-loop-i l =
+    (l.i ≤ l.count) × (first_failing single_test 1 (modules_from l.plan 0 l.count) ≡ first_failing single_test (l.i + 1) (modules_from l.plan l.i (l.count - l.i)))
+
+abbrev pub decreases-loop-i : goal.decreases-loop-i
+decreases-loop-i l = l.count - l.i

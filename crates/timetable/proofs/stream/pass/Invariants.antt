@@ -1,0 +1,21 @@
+-- `pass` is `pass` of the definitions: what is passed and what is left make the whole row, and no time outgrows 64 bits.
+use mathlib.Core.Path.{◌≡◌, refl, ap, ◌∙◌}
+use mathlib.Core.List.{◌++◌}
+use Prim.Native.Nat.{ℕ, ◌+◌, ◌*◌, ◌-◌, ◌≤◌}
+use native.Mathlib.Nat.{sub-zero}
+use native.Mathlib.Omega.{arith}
+use lib.ListN.{get_or, take, drop, length, length-set}
+use borrow.Author.Rules.{rules}
+use Rattle.timetable.specs.Loops.{stages_in, most_body, most_send, most_time}
+use Rattle.timetable.specs.Timetable.{pass, last_of}
+use Rattle.timetable.proofs.Turns.{row_turn, last_turn, row_done, last_done, ahead, ahead_set, later_most}
+use Rattle.timetable.proofs.stream.pass.Given as goal
+
+abbrev pub invariant-loop-i : goal.invariant-loop-i
+invariant-loop-i l =
+    (l.i ≤ l.count) × (length l.through ≡ length l.initial.through) × (l.ready ≤ most_time + l.i * (most_body + most_send)) × (drop l.i l.through ≡ drop l.i l.initial.through)
+    × (take l.i l.through ++ pass l.ready (stages_in l.bodies l.sends l.i (l.count - l.i)) (drop l.i l.through) ≡ pass l.initial.ready (stages_in l.bodies l.sends 0 l.count) l.initial.through)
+    × (last_of l.ready (pass l.ready (stages_in l.bodies l.sends l.i (l.count - l.i)) (drop l.i l.through)) ≡ last_of l.initial.ready (pass l.initial.ready (stages_in l.bodies l.sends 0 l.count) l.initial.through))
+
+abbrev pub decreases-loop-i : goal.decreases-loop-i
+decreases-loop-i l = l.count - l.i
