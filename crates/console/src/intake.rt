@@ -3,7 +3,9 @@ ghost use Rattle.std.specs.Prelude.{◌≡◌, true, length};
 ghost use Rattle.io.specs.Counts.{IsPrefixLen};
 
 use crate::Input;
-use libc::STDIN_FILENO;
+
+// The file descriptor of standard input.
+const STDIN_FILENO: i32 = 0;
 
 // Fills the file from standard input, until it is full, the input ends or a read fails. Where the file is full one byte more is
 // tried, and longer says that it came. What was read, no contract of the kit can say: the promise is that the length is within

@@ -36,7 +36,7 @@ first_exactly s r = (λ e. rw e at (begun.finds s), begun.finds_only s r)
 module _ (l : List ℕ) (k : ℕ) (some : 1 ≤ k) where
   -- 17: exactly the laws of a chain of k tasks pass
   pub laws_exactly : (laws_meet l k ≡ true) ↔ IsLaws l k
-  laws_exactly = (stated.meets_laws l k some, stated.laws_meet l k some)
+  laws_exactly = (stated.meets_laws l k some, stated.laws_meet_lem l k some)
 
   module _ (h : IsLaws l k) where
     -- one record, and no other, has the kind and task of a cost: the law is its

@@ -7,7 +7,9 @@ ghost use Rattle.console.specs.Text.{text_of};
 ghost use Rattle.plan.specs.Plan.{plan_text, program_text};
 
 use console::{Input, Text};
-use libc::STDOUT_FILENO;
+
+// The file descriptor of standard output.
+const STDOUT_FILENO: i32 = 1;
 
 // A write that fails has nobody to be told: a program has no exit status.
 fn write(text: Text)

@@ -24,7 +24,7 @@ pub loop-i-smaller : goal.loop-i-smaller
 loop-i-smaller c = omega arith
 
 pub loop-i-preserved : goal.loop-i-preserved
-loop-i-preserved c = 
+loop-i-preserved c =
     let a = c.args in
     let i = c.loop-i.i in
     let n = c.module_count-count.result in
@@ -34,7 +34,7 @@ loop-i-preserved c =
 
 pub returns : goal.returns
 unfolding modules_of
-returns c = 
+returns c =
     let a = c.args in
     let n = c.module_count-count in
     let done = time_end (chain_of a.costs.now a.board) a.plan.now c.loop-i.i n.result (omega arith) in

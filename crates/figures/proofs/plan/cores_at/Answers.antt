@@ -7,7 +7,7 @@ use Rattle.layout.proofs.Turns.{record_here}
 use Rattle.figures.proofs.plan.cores_at.Goals as goal
 
 pub returns-then-i-count : goal.returns-then-i-count
-returns-then-i-count c = 
+returns-then-i-count c =
     let a = c.args in
     rw (lt-ltb _ _ c.if-i-count.true, c.module_at-m.ensures, record_here a.plan.now a.i (omega arith)) (refl)
 

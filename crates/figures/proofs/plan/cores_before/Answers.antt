@@ -13,6 +13,6 @@ unfolding cores_before
 returns-then-i-eq0 c = simp c.if-i-eq0.true
 
 pub returns : goal.returns
-returns c = 
+returns c =
     let a = c.args in
     rw (c.module_at-m.ensures, record_here a.plan.now (a.i - 1) (omega arith)) (sym (cores_before_some a.plan.now a.i (omega arith)))

@@ -23,12 +23,12 @@ pub overflow_cast-sum-in-loop-i : goal.overflow_cast-sum-in-loop-i
 overflow_cast-sum-in-loop-i c = omega arith
 
 pub overflow_mul-sum : goal.overflow_mul-sum
-overflow_mul-sum c = 
+overflow_mul-sum c =
     let m = c.module_at-m.result in
     omega (arith, product_of_bytes {x = m.copies} {y = m.cores} (omega arith) (omega arith))
 
 pub overflow_add-sum : goal.overflow_add-sum
-overflow_add-sum c = 
+overflow_add-sum c =
     let m = c.module_at-m.result in
     omega (arith, product_of_bytes {x = m.copies} {y = m.cores} (omega arith) (omega arith))
 
@@ -39,7 +39,7 @@ pub loop-i-smaller : goal.loop-i-smaller
 loop-i-smaller c = omega arith
 
 pub loop-i-preserved : goal.loop-i-preserved
-loop-i-preserved c = 
+loop-i-preserved c =
     let a = c.args in
     let m = c.module_at-m in
     let i = c.loop-i.i in
@@ -47,7 +47,7 @@ loop-i-preserved c =
     omega (arith, product_of_bytes {x = m.result.copies} {y = m.result.cores} (omega arith) (omega arith))
 
 pub returns : goal.returns
-returns c = 
+returns c =
     let a = c.args in
     let done = cores_end a.plan.now c.loop-i.i a.count (omega arith) in
     omega arith

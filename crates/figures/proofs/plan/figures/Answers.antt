@@ -8,7 +8,7 @@ use Rattle.figures.proofs.plan.figures.Goals as goal
 
 pub returns : goal.returns
 unfolding figures_of modules_of
-returns c = 
+returns c =
     let a = c.args in
     let n = c.module_count-count in
     let h = modules_length a.plan.now 0 n.result in

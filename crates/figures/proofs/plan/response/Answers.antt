@@ -9,7 +9,7 @@ use Rattle.figures.proofs.plan.response.Goals as goal
 
 pub returns-then-i-count : goal.returns-then-i-count
 unfolding response_at modules_of
-returns-then-i-count c = 
+returns-then-i-count c =
     let a = c.args in
     let n = c.module_count-count in
     let some = response_some (chain_of a.costs.now a.board) a.plan.now n.result a.i c.if-i-count.true in
@@ -17,7 +17,7 @@ returns-then-i-count c =
 
 pub returns : goal.returns
 unfolding response_at modules_of
-returns c = 
+returns c =
     let a = c.args in
     let n = c.module_count-count in
     let none = response_none (chain_of a.costs.now a.board) a.plan.now n.result a.i c.if-i-count.false in

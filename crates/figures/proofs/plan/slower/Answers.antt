@@ -11,12 +11,12 @@ response-by-copies : (x y : ℕ) → x < 8796093022208 → y < 256 → x * y ≤
 response-by-copies x y h i = mul-le-mul {n₂ = 8796093022208} {m₂ = 256} (omega arith) (omega arith)
 
 pub overflow_mul-left : goal.overflow_mul-left
-overflow_mul-left c = 
+overflow_mul-left c =
     let a = c.args in
     omega (arith, response-by-copies a.x.response a.y.copies (omega arith) (omega arith))
 
 pub overflow_mul-right : goal.overflow_mul-right
-overflow_mul-right c = 
+overflow_mul-right c =
     let a = c.args in
     omega (arith, response-by-copies a.y.response a.x.copies (omega arith) (omega arith))
 

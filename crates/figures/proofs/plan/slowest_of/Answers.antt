@@ -17,7 +17,7 @@ pub slowness-x-requires : goal.slowness-x-requires
 slowness-x-requires c = omega arith
 
 pub loop-i-init : goal.loop-i-init
-loop-i-init c = 
+loop-i-init c =
     let a = c.args in
     let start = slowest_start (chain_of a.costs.now a.board) a.plan.now a.count (omega arith) in
     (omega arith, omega arith, rw (← c.slowness-x.ensures.0) at start, omega arith, omega arith)
@@ -35,7 +35,7 @@ pub loop-i-smaller : goal.loop-i-smaller
 loop-i-smaller c = omega arith
 
 pub loop-i-preserved : goal.loop-i-preserved
-loop-i-preserved c = 
+loop-i-preserved c =
     let a = c.args in
     let l = c.loop-i in
     let y = c.slowness-y in
@@ -44,7 +44,7 @@ loop-i-preserved c =
     rw c.slower-z.ensures (omega arith, omega arith, rw y.ensures.0 (l.invariant.2 ∙ next), omega arith, omega arith)
 
 pub returns : goal.returns
-returns c = 
+returns c =
     let a = c.args in
     let l = c.loop-i in
     sym (l.invariant.2 ∙ slowest_end (chain_of a.costs.now a.board) a.plan.now l.i a.count l.x (omega arith))

@@ -8,7 +8,7 @@ use borrow.Author.Rules.{rules}
 use Rattle.figures.proofs.plan.slowness.Goals as goal
 
 pub returns : goal.returns
-returns c = 
+returns c =
     let a = c.args in
     let k = chain_of a.costs.now a.board in
     let m = c.module_at-m.ensures ∙ record_here a.plan.now a.i (omega arith) in

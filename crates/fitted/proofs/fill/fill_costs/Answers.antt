@@ -1,5 +1,4 @@
 -- `fill_costs` refuses with what the first part deserves, and else fills in on its board.
-use borrow.Author.Rules.{rules}
 use Rattle.records.proofs.Exact.{opens_ranged}
 use Rattle.fitted.proofs.Answers.{refuse_board, refuse_tasks, filled_first, first_length}
 use Rattle.fitted.proofs.fill.fill_costs.Goals as goal

@@ -1,7 +1,6 @@
 -- `fill_on` refuses with the laws' fault, then with 19, and else fills in.
 use mathlib.Core.Path.{sym, ◌∙◌}
 use native.Mathlib.Omega.{arith}
-use borrow.Author.Rules.{rules}
 use Rattle.fitted.proofs.Dues.{count_bound}
 use Rattle.fitted.proofs.Answers.{refuse_on, short_on, filled_on}
 use Rattle.fitted.proofs.fill.fill_on.Goals as goal

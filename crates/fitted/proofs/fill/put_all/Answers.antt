@@ -1,6 +1,5 @@
 -- `put_all` writes the first part and, behind it, the records of the laws, for which there is room.
 use native.Mathlib.Omega.{arith}
-use borrow.Author.Rules.{rules}
 use Rattle.fitted.proofs.Answers.{fault_none, put_both}
 use Rattle.fitted.proofs.Dues.{count_more, all_length}
 use Rattle.fitted.proofs.Stated.{meets_laws}
@@ -14,7 +13,7 @@ put_costs-requires c =
     let a = c.args in
     let f = fault_none a.laws.now a.k a.p c.requires.4 in
     let all = all_length a.laws.now a.k a.p (omega arith) (meets_laws a.laws.now a.k (omega arith) f.0) in
-    (omega arith, omega arith, omega arith, f.1, omega (arith, all, c.put_head.auto.1))
+    (omega arith, omega arith, omega arith, f.1, omega (arith, all, c.put_head.auto.out))
 
 pub returns : goal.returns
 returns c =

@@ -1,12 +1,9 @@
 -- `put_cost` writes the records of a cost. The loop's invariant: the records from j on, written behind those that are, make the
 -- whole.
 use mathlib.Core.Path.{◌≡◌, refl, sym, ◌∙◌}
-use Prim.Native.Nat.{◌+◌, ◌-◌, ◌*◌, ◌≤◌}
+use Prim.Native.Nat.{◌+◌, ◌*◌}
 use native.Mathlib.Omega.{arith}
-use borrow.Author.Rules.{rules}
-use lib.ListN.{length, drop}
-use lib.Seq.{sets}
-use Rattle.fitted.specs.Fill.{cost_keys, value_by, records_of, cost_records}
+use Rattle.fitted.specs.Fill.{cost_keys, value_by}
 use Rattle.fitted.proofs.Keys.{cost_count_lem}
 use Rattle.fitted.proofs.Walks.{value_at, within_at, put_next, put_end}
 use Rattle.fitted.proofs.fill.put_cost.Goals as goal
@@ -48,7 +45,7 @@ loop-j-preserved c =
     let l = c.loop-j in
     let a = c.args in (
       omega arith,
-      c.put_record.auto.0 ∙ l.invariant.1,
+      c.put_record.auto.out ∙ l.invariant.1,
       l.invariant.2
           ∙ put_next a.cost a.p l.j l.out a.n (omega (arith, c.cost_count-total.ensures.0)) c.cell_of-cell.ensures c.law_at-value.ensures c.put_record.ensures,
     )

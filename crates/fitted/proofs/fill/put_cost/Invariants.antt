@@ -1,14 +1,10 @@
 -- `put_cost` writes the records of a cost. The loop's invariant: the records from j on, written behind those that are, make the
 -- whole.
-use mathlib.Core.Path.{◌≡◌, refl, sym, ◌∙◌}
+use mathlib.Core.Path.{◌≡◌}
 use Prim.Native.Nat.{◌+◌, ◌-◌, ◌*◌, ◌≤◌}
-use native.Mathlib.Omega.{arith}
-use borrow.Author.Rules.{rules}
 use lib.ListN.{length, drop}
 use lib.Seq.{sets}
 use Rattle.fitted.specs.Fill.{cost_keys, value_by, records_of, cost_records}
-use Rattle.fitted.proofs.Keys.{cost_count_lem}
-use Rattle.fitted.proofs.Walks.{value_at, within_at, put_next, put_end}
 use Rattle.fitted.proofs.fill.put_cost.Given as goal
 
 abbrev pub invariant-loop-j : goal.invariant-loop-j

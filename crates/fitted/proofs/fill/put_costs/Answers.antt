@@ -4,26 +4,12 @@ use mathlib.Core.Path.{◌≡◌, refl, sym, ap, ◌∙◌}
 use mathlib.Core.Bool.{true}
 use Prim.Native.Nat.{◌+◌, ◌-◌, ◌*◌, ◌≤◌, ◌<◌}
 use native.Mathlib.Omega.{arith}
-use borrow.Author.Rules.{rules}
 use lib.ListN.{length}
-use lib.Seq.{sets}
 use Rattle.laws.specs.declared.Cost.{Cost}
 use Rattle.laws.specs.Form.{cost_at}
-use Rattle.fitted.specs.Fill.{law_count, cost_count, cost_within, values_meet, records_from}
+use Rattle.fitted.specs.Fill.{law_count, cost_count, cost_within}
 use Rattle.fitted.proofs.Walks.{values_split, costs_length, costs_next, records_end}
 use Rattle.fitted.proofs.fill.put_costs.Goals as goal
-
--- the first of the costs that are left: in range, and with room for its records
-fits : (c : tie.After-cost-at invariant-loop decreases-loop)
-    → (let l = c.before.before.loop in let x = c.cost-at.result in let p = c.before.before.before.before.before.before.before.args.p in
-    (cost_within x p ≡ true) × (8 * l.n + 8 * cost_count x.kind p ≤ length l.out))
-fits c =
-    let counted = c.before.before.before.before in
-    let a = counted.before.before.before.args in
-    let l = c.before.before.loop in
-    let more : l.i < law_count a.k = omega (arith, counted.law-count.ensures) in
-    let v = values_split a.laws.now a.p l.i (law_count a.k) more l.invariant.4 in
-    rw c.cost-at.ensures (v.0, omega (arith, costs_length a.laws.now a.p l.i (law_count a.k) more))
 
 pub law_count-total-requires : goal.law_count-total-requires
 law_count-total-requires c = omega arith
@@ -38,7 +24,14 @@ loop-i-init c =
     rw (e, c.wide-n.ensures.0) (omega arith, omega arith, refl, c.requires.4, c.requires.3, refl)
 
 pub put_cost-requires : goal.put_cost-requires
-put_cost-requires c = let h = fits c in (omega arith, omega arith, h.1, h.0)
+put_cost-requires c =
+    let a = c.args in
+    let l = c.loop-i in
+    let more : l.i < law_count a.k = omega (arith, c.law_count-total.ensures) in
+    let v = values_split a.laws.now a.p l.i (law_count a.k) more l.invariant.4 in
+    let h : (cost_within c.cost_at-cost.result a.p ≡ true) × (8 * l.n + 8 * cost_count c.cost_at-cost.result.kind a.p ≤ length l.out) =
+    rw c.cost_at-cost.ensures (v.0, omega (arith, costs_length a.laws.now a.p l.i (law_count a.k) more)) in
+    (omega arith, omega arith, h.1, h.0)
 
 pub overflow_add-n-in-loop-i : goal.overflow_add-n-in-loop-i
 overflow_add-n-in-loop-i c = omega arith
@@ -58,7 +51,7 @@ loop-i-preserved c =
     let m : c.cost_count-n.result ≡ cost_count (cost_at a.laws.now l.i).kind a.p = c.cost_count-n.ensures.0 ∙ ap (λ (x : Cost). cost_count x.kind a.p) c.cost_at-cost.ensures in (
       omega arith,
       omega arith,
-      c.put_cost.auto.0 ∙ l.invariant.2,
+      c.put_cost.auto.out ∙ l.invariant.2,
       omega (arith, m, costs_length a.laws.now a.p l.i (law_count a.k) more),
       v.1,
       l.invariant.5 ∙ costs_next a.laws.now a.p l.i (law_count a.k) more l.out l.n c.cost_at-cost.ensures c.cost_count-n.ensures.0 c.put_cost.ensures,

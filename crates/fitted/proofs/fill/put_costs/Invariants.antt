@@ -1,16 +1,11 @@
 -- `put_costs` writes the records of all laws. The loop's invariant: those of the laws from i on, written behind those that are, make
 -- the whole, and there is room for them.
-use mathlib.Core.Path.{◌≡◌, refl, sym, ap, ◌∙◌}
+use mathlib.Core.Path.{◌≡◌}
 use mathlib.Core.Bool.{true}
-use Prim.Native.Nat.{◌+◌, ◌-◌, ◌*◌, ◌≤◌, ◌<◌}
-use native.Mathlib.Omega.{arith}
-use borrow.Author.Rules.{rules}
+use Prim.Native.Nat.{◌+◌, ◌-◌, ◌*◌, ◌≤◌}
 use lib.ListN.{length}
 use lib.Seq.{sets}
-use Rattle.laws.specs.declared.Cost.{Cost}
-use Rattle.laws.specs.Form.{cost_at}
-use Rattle.fitted.specs.Fill.{law_count, cost_count, cost_within, values_meet, records_from}
-use Rattle.fitted.proofs.Walks.{values_split, costs_length, costs_next, records_end}
+use Rattle.fitted.specs.Fill.{law_count, values_meet, records_from}
 use Rattle.fitted.proofs.fill.put_costs.Given as goal
 
 abbrev pub invariant-loop-i : goal.invariant-loop-i

@@ -19,12 +19,12 @@ abbrev chain : tie.Start → Chain
 chain s = chain_of s.args.costs.now s.args.board
 
 abbrev modules : tie.Start → List Module
-modules s = modules_of s.args.t3 s.args.board.tasks
+modules s = modules_of s.args.plan s.args.board.tasks
 
 -- the modules are as many as are counted
 counted : (c : tie.After-module-count) → c.module-count.result ≡ length (modules c.before.before.before)
 unfolding modules_of
-counted c = c.module-count.ensures.0 ∙ sym (modules_length c.before.before.before.args.t3 0 _)
+counted c = c.module-count.ensures.0 ∙ sym (modules_length c.before.before.before.args.plan 0 _)
 
 -- there is such a module
 there : (c : tie.Else1) → c.before.before.before.before.args.i < length (modules c.before.before.before.before)
@@ -32,13 +32,13 @@ there c = omega (arith, counted c.before)
 
 -- and it is the one that is read
 read : (c : tie.After-module-at) → let s = c.before.before.before.before.before.before in
-    (c.module-at.result ≡ module_at s.args.t3 s.args.i) × (c.module-at.result ≡ get_or (modules s) s.args.i no_module)
+    (c.module-at.result ≡ module_at s.args.plan s.args.i) × (c.module-at.result ≡ get_or (modules s) s.args.i no_module)
 unfolding modules_of
 read c =
     let n = c.before.before.before in
     let s = n.before.before.before in
-    let e = c.module-at.ensures ∙ record_here s.args.t3 s.args.i (omega arith) in
-    (e, e ∙ sym (modules_at s.args.t3 _ s.args.i no_module (omega (arith, n.module-count.ensures.0))))
+    let e = c.module-at.ensures ∙ record_here s.args.plan s.args.i (omega arith) in
+    (e, e ∙ sym (modules_at s.args.plan _ s.args.i no_module (omega (arith, n.module-count.ensures.0))))
 
 pub returns-then-count-i : goal.returns-then-count-i
 returns-then-count-i c = sym (take_none (chain s) (modules s) c.args.i (omega (arith, counted c)))
@@ -46,7 +46,7 @@ returns-then-count-i c = sym (take_none (chain s) (modules s) c.args.i (omega (a
 pub overflow_add-more : goal.overflow_add-more
 overflow_add-more c = 
     let m = (read c).0 in
-    let b = byte_most c.args.board.tasks c.args.t3 c.args.i c.requires.0 c.requires.1 (there c) in
+    let b = byte_most c.args.board.tasks c.args.plan c.args.i c.requires.0 c.requires.1 (there c) in
     rw m (omega arith)
 
 pub returns : goal.returns

@@ -21,7 +21,7 @@ abbrev chain : tie.Start → Chain
 chain s = chain_of s.args.costs.now s.args.board
 
 abbrev modules : tie.Start → List Module
-modules s = modules_of s.args.t3 s.args.board.tasks
+modules s = modules_of s.args.plan s.args.board.tasks
 
 -- what the figures say
 slowest : (c : tie.After-figures) → c.figures.result.slowest ≡ (bottleneck (chain c.before.before.before) (modules c.before.before.before)).number

@@ -1,6 +1,5 @@
 -- `module_at` is `record_of`: the test of the index decides which branch is due.
 use borrow.Author.Tests.{lt-ltb, le-ltb}
-use borrow.Author.Rules.{rules}
 use Rattle.layout.specs.Layout.{record_of}
 use Rattle.layout.proofs.layout.module_at.Goals as goal
 

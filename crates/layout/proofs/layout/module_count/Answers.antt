@@ -1,8 +1,7 @@
 -- `module_count` is `module_count`: what the search from record i on finds is what the whole search finds.
-use mathlib.Core.Path.{◌≡◌, refl, sym, ◌∙◌}
-use Prim.Native.Nat.{◌-◌, ◌≤◌}
+use mathlib.Core.Path.{refl, sym, ◌∙◌}
 use native.Mathlib.Omega.{arith}
-use Rattle.layout.specs.Layout.{most_modules, count_from, module_count}
+use Rattle.layout.specs.Layout.{most_modules, module_count}
 use Rattle.layout.proofs.Turns.{count_here, count_next, count_end}
 use Rattle.layout.proofs.layout.module_count.Goals as goal
 
@@ -17,7 +16,7 @@ pub overflow_add-i : goal.overflow_add-i
 overflow_add-i c = omega arith
 
 pub returns-then-m-k : goal.returns-then-m-k
-returns-then-m-k c = 
+returns-then-m-k c =
     let a = c.args in
     let l = c.loop-i in
     let m = c.record_at-m.ensures in
@@ -27,14 +26,14 @@ pub loop-i-smaller : goal.loop-i-smaller
 loop-i-smaller c = omega arith
 
 pub loop-i-preserved : goal.loop-i-preserved
-loop-i-preserved c = 
+loop-i-preserved c =
     let a = c.args in
     let l = c.loop-i in
     let m = c.record_at-m.ensures in
     (omega arith, l.invariant.1 ∙ count_next a.plan.now l.i most_modules (omega arith) m a.k c.if-m-k.false)
 
 pub returns : goal.returns
-returns c = 
+returns c =
     let a = c.args in
     let l = c.loop-i in
     (sym (l.invariant.1 ∙ count_end a.plan.now l.i most_modules a.k (omega arith)), omega arith)

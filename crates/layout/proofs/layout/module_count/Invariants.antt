@@ -1,9 +1,7 @@
 -- `module_count` is `module_count`: what the search from record i on finds is what the whole search finds.
-use mathlib.Core.Path.{◌≡◌, refl, sym, ◌∙◌}
+use mathlib.Core.Path.{◌≡◌}
 use Prim.Native.Nat.{◌-◌, ◌≤◌}
-use native.Mathlib.Omega.{arith}
 use Rattle.layout.specs.Layout.{most_modules, count_from, module_count}
-use Rattle.layout.proofs.Turns.{count_here, count_next, count_end}
 use Rattle.layout.proofs.layout.module_count.Given as goal
 
 abbrev pub invariant-loop-i : goal.invariant-loop-i

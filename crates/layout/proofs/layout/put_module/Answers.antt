@@ -6,7 +6,6 @@ use native.Mathlib.Omega.{arith}
 use lib.ListN.{length-set}
 use borrow.Author.Tests.{lt-ltb, le-ltb, le-leb, lt-leb}
 use Rattle.layout.specs.Layout.{most_modules, put_module}
-use borrow.Author.Rules.{rules}
 use Rattle.layout.proofs.layout.put_module.Goals as goal
 
 pub bounds-plan-at-then-plan-ge-PLAN_BYTES : goal.bounds-plan-at-then-plan-ge-PLAN_BYTES
@@ -20,7 +19,7 @@ bounds-plan-at-then-plan-ge-PLAN_BYTES-3 c = simp length-set (omega arith)
 
 pub returns-then-plan-ge-PLAN_BYTES : goal.returns-then-plan-ge-PLAN_BYTES
 unfolding put_module
-returns-then-plan-ge-PLAN_BYTES c = 
+returns-then-plan-ge-PLAN_BYTES c =
     let i = c.args.i in
     let e₁ : 4 * i + 1 ≡ suc (4 * i) = omega arith in
     let e₂ : 4 * i + 2 ≡ suc (suc (4 * i)) = omega arith in

@@ -1,13 +1,11 @@
 -- `put_plan` copies: after each turn one byte more is that of the plan.
 use mathlib.Core.Path.{◌≡◌, refl, ◌∙◌}
-use mathlib.Core.List.{◌++◌}
-use Prim.Native.Nat.{◌-◌, ◌≤◌}
 use native.Mathlib.Nat.{zero-add}
 use native.Mathlib.Numerals.{add-one}
 use native.Mathlib.Omega.{arith}
 use borrow.Author.Rules.{rules}
 use borrow.Author.Tests.{le-leb, lt-leb}
-use lib.ListN.{length, take, drop, length-set}
+use lib.ListN.{length, length-set}
 use lib.Seq.{paste-suc, take_all}
 use Rattle.layout.specs.Layout.{plan_bytes, put_plan}
 use Rattle.layout.proofs.layout.put_plan.Goals as goal
@@ -32,11 +30,11 @@ pub loop-i-smaller : goal.loop-i-smaller
 loop-i-smaller c = omega arith
 
 pub loop-i-preserved : goal.loop-i-preserved
-loop-i-preserved c = 
+loop-i-preserved c =
     let a = c.args in
     let l = c.loop-i in
-    let long : length a.t1 ≡ plan_bytes = search rules in
-    let more = simp zero-add at (paste-suc a.plan.now 0 a.t1 l.i 0 (omega arith) (omega arith)) in
+    let long : length a.from ≡ plan_bytes = search rules in
+    let more = simp zero-add at (paste-suc a.plan.now 0 a.from l.i 0 (omega arith) (omega arith)) in
     (omega arith, simp length-set (omega arith), rw (l.invariant.2, add-one l.i) more)
 
 pub shape_of-plan : goal.shape_of-plan
@@ -44,9 +42,9 @@ shape_of-plan c = omega arith
 
 pub returns : goal.returns
 unfolding put_plan
-returns c = 
+returns c =
     let a = c.args in
     let l = c.loop-i in
-    let long : length a.t1 ≡ plan_bytes = search rules in
+    let long : length a.from ≡ plan_bytes = search rules in
     let end : l.i ≡ plan_bytes = omega arith in
-    l.invariant.2 ∙ rw (end, take_all plan_bytes a.t1 (omega arith), le-leb plan_bytes (length a.plan.now) c.if-plan-lt-PLAN_BYTES.false) (refl)
+    l.invariant.2 ∙ rw (end, take_all plan_bytes a.from (omega arith), le-leb plan_bytes (length a.plan.now) c.if-plan-lt-PLAN_BYTES.false) (refl)

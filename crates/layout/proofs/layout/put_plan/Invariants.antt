@@ -1,15 +1,9 @@
 -- `put_plan` copies: after each turn one byte more is that of the plan.
-use mathlib.Core.Path.{◌≡◌, refl, ◌∙◌}
+use mathlib.Core.Path.{◌≡◌}
 use mathlib.Core.List.{◌++◌}
 use Prim.Native.Nat.{◌-◌, ◌≤◌}
-use native.Mathlib.Nat.{zero-add}
-use native.Mathlib.Numerals.{add-one}
-use native.Mathlib.Omega.{arith}
-use borrow.Author.Rules.{rules}
-use borrow.Author.Tests.{le-leb, lt-leb}
-use lib.ListN.{length, take, drop, length-set}
-use lib.Seq.{paste-suc, take_all}
-use Rattle.layout.specs.Layout.{plan_bytes, put_plan}
+use lib.ListN.{length, take, drop}
+use Rattle.layout.specs.Layout.{plan_bytes}
 use Rattle.layout.proofs.layout.put_plan.Given as goal
 
 abbrev pub invariant-loop-i : goal.invariant-loop-i

@@ -1,10 +1,9 @@
 -- `record_at` is `module_at`, byte by byte.
 use mathlib.Core.Path.{refl}
-use borrow.Author.Rules.{rules}
 use Rattle.layout.proofs.layout.record_at.Goals as goal
 
 pub returns : goal.returns
-returns c = 
+returns c =
     rw (
       c.byte_at.ensures,
       c.byte_at-2.ensures,

@@ -1,11 +1,10 @@
 -- `body` is the chain's: what is added up and what is left of the sum are the whole, and each turn adds two 32-bit values.
-use mathlib.Core.Path.{◌≡◌}
 use mathlib.Core.List.{List}
-use Prim.Native.Nat.{ℕ, ◌+◌, ◌-◌, ◌*◌, ◌≤◌}
+use Prim.Native.Nat.{ℕ}
 use native.Mathlib.Omega.{arith}
 use Rattle.records.specs.declared.Board.{Board}
 use Rattle.lookups.specs.Lookups.{execution_of, internal_of}
-use Rattle.modules.specs.Model.{run, body}
+use Rattle.modules.specs.Model.{body}
 use Rattle.modules.proofs.Sums.{run_step, run_end, gather_some, gather_none}
 use Rattle.modules.proofs.cost.body.Goals as goal
 
@@ -17,7 +16,7 @@ internals s b p t = internal_of s b t p
 
 pub returns-then-last-first : goal.returns-then-last-first
 unfolding body
-returns-then-last-first c = 
+returns-then-last-first c =
     let a = c.args in
     let f = executions a.costs.now a.board a.p in
     let g = internals a.costs.now a.board a.p in
@@ -52,7 +51,7 @@ pub loop-t-smaller : goal.loop-t-smaller
 loop-t-smaller c = omega arith
 
 pub loop-t-preserved : goal.loop-t-preserved
-loop-t-preserved c = 
+loop-t-preserved c =
     let a = c.args in
     let l = c.loop-t in
     let f = executions a.costs.now a.board a.p in
@@ -71,7 +70,7 @@ overflow_add-result c = omega arith
 
 pub returns : goal.returns
 unfolding body
-returns c = 
+returns c =
     let a = c.args in
     let l = c.loop-t in
     let f = executions a.costs.now a.board a.p in

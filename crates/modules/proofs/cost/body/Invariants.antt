@@ -2,11 +2,9 @@
 use mathlib.Core.Path.{◌≡◌}
 use mathlib.Core.List.{List}
 use Prim.Native.Nat.{ℕ, ◌+◌, ◌-◌, ◌*◌, ◌≤◌}
-use native.Mathlib.Omega.{arith}
 use Rattle.records.specs.declared.Board.{Board}
 use Rattle.lookups.specs.Lookups.{execution_of, internal_of}
-use Rattle.modules.specs.Model.{run, body}
-use Rattle.modules.proofs.Sums.{run_step, run_end, gather_some, gather_none}
+use Rattle.modules.specs.Model.{run}
 use Rattle.modules.proofs.cost.body.Given as goal
 
 abbrev executions : List ℕ → Board → ℕ → ℕ → ℕ

@@ -1,6 +1,5 @@
 -- `handed` is the chain's: the copies decide whether the lookup counts.
 use borrow.Author.Tests.{lt-ltb, le-ltb}
-use borrow.Author.Rules.{rules}
 use Rattle.modules.specs.Model.{handed}
 use Rattle.modules.proofs.cost.handed.Goals as goal
 

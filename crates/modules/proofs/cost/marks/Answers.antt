@@ -1,14 +1,12 @@
 -- `marks` is the sum of the marks: what is added up and what is left of the sum are the whole.
-use mathlib.Core.Path.{◌≡◌}
-use Prim.Native.Nat.{◌+◌, ◌-◌, ◌≤◌}
 use native.Mathlib.Omega.{arith}
-use Rattle.modules.specs.Model.{chain_of, run, nothing}
+use Rattle.modules.specs.Model.{chain_of, nothing}
 use Rattle.modules.specs.Rules.{mark}
 use Rattle.modules.proofs.Sums.{run_step, run_end, gather_some, gather_none}
 use Rattle.modules.proofs.cost.marks.Goals as goal
 
 pub returns-then-last-first : goal.returns-then-last-first
-returns-then-last-first c = 
+returns-then-last-first c =
     let a = c.args in
     let none = gather_none (mark (chain_of a.costs.now a.board)) nothing a.first a.last c.if-last-first.true in
     omega arith
@@ -29,7 +27,7 @@ pub loop-t-smaller : goal.loop-t-smaller
 loop-t-smaller c = omega arith
 
 pub loop-t-preserved : goal.loop-t-preserved
-loop-t-preserved c = 
+loop-t-preserved c =
     let a = c.args in
     let next = run_step (mark (chain_of a.costs.now a.board)) nothing c.loop-t.t a.last (omega arith) in
     omega arith
@@ -41,7 +39,7 @@ pub overflow_add-result : goal.overflow_add-result
 overflow_add-result c = omega arith
 
 pub returns : goal.returns
-returns c = 
+returns c =
     let a = c.args in
     let f = mark (chain_of a.costs.now a.board) in
     let some = gather_some f nothing a.first a.last (omega arith) in

@@ -1,10 +1,8 @@
 -- `marks` is the sum of the marks: what is added up and what is left of the sum are the whole.
 use mathlib.Core.Path.{◌≡◌}
 use Prim.Native.Nat.{◌+◌, ◌-◌, ◌≤◌}
-use native.Mathlib.Omega.{arith}
 use Rattle.modules.specs.Model.{chain_of, run, nothing}
 use Rattle.modules.specs.Rules.{mark}
-use Rattle.modules.proofs.Sums.{run_step, run_end, gather_some, gather_none}
 use Rattle.modules.proofs.cost.marks.Given as goal
 
 abbrev pub invariant-loop-t : goal.invariant-loop-t

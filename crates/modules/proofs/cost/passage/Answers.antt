@@ -1,7 +1,6 @@
 -- `passage` is the chain's: the body, what is sent and what handing out costs.
 use mathlib.Core.Path.{refl}
 use native.Mathlib.Omega.{arith}
-use borrow.Author.Rules.{rules}
 use Rattle.modules.specs.Model.{passage}
 use Rattle.modules.proofs.cost.passage.Goals as goal
 

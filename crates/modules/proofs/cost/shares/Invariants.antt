@@ -1,10 +1,8 @@
 -- `shares` is `shares`: what is added up and what is left of the sum are the whole.
 use mathlib.Core.Path.{◌≡◌}
-use Prim.Native.Nat.{ℕ, ◌+◌, ◌-◌, ◌*◌, ◌≤◌}
-use native.Mathlib.Omega.{arith}
+use Prim.Native.Nat.{◌+◌, ◌-◌, ◌*◌, ◌≤◌}
 use Rattle.modules.specs.Model.{chain_of, run, nothing}
-use Rattle.modules.specs.Rules.{share as share_of, shares as shares_of}
-use Rattle.modules.proofs.Sums.{run_step, run_end, gather_some, gather_none}
+use Rattle.modules.specs.Rules.{share as share_of}
 use Rattle.modules.proofs.cost.shares.Given as goal
 
 abbrev pub invariant-loop-t : goal.invariant-loop-t

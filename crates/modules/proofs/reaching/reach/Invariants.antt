@@ -1,12 +1,9 @@
 -- `reach` is the definition of that name: what is found up to the task before is the reach of a chain that ends there, and the first module
 -- that needs more cores than the board has ends the search.
-use mathlib.Core.Path.{◌≡◌, sym, ◌∙◌}
+use mathlib.Core.Path.{◌≡◌}
 use Prim.Native.Nat.{◌+◌, ◌-◌, ◌≤◌}
-use native.Mathlib.Omega.{arith}
-use borrow.Author.Rules.{rules}
 use Rattle.modules.specs.Model.{chain_of}
 use Rattle.modules.specs.Reach.{reach_of}
-use Rattle.modules.proofs.Longest.{reach_zero, reach_nothing, reach_more, reach_stops, reach_ends}
 use Rattle.modules.proofs.reaching.reach.Given as goal
 
 abbrev pub invariant-loop-before : goal.invariant-loop-before

@@ -1,6 +1,5 @@
 -- `copies_allowed` is `copies_allowed`: the test of the copies decides which side of the disjunction is due.
 use borrow.Author.Tests.{le-leb, lt-leb}
-use borrow.Author.Rules.{rules}
 use Rattle.modules.specs.Rules.{copies_allowed}
 use Rattle.modules.proofs.rules.copies_allowed.Goals as goal
 

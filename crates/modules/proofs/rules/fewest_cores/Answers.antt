@@ -1,10 +1,9 @@
 -- `fewest_cores` is `fewest_cores`: what the search from p on finds is what the whole search finds.
-use mathlib.Core.Path.{◌≡◌, sym, ◌∙◌}
-use Prim.Native.Nat.{◌-◌, ◌≤◌}
+use mathlib.Core.Path.{sym, ◌∙◌}
 use native.Mathlib.Nat.{sub-zero}
 use native.Mathlib.Omega.{arith}
 use Rattle.modules.specs.Model.{chain_of}
-use Rattle.modules.specs.Rules.{fewest_cores, fewest_from}
+use Rattle.modules.specs.Rules.{fewest_cores}
 use Rattle.modules.proofs.Fewest.{fewest_here, fewest_next, fewest_end}
 use Rattle.modules.proofs.rules.fewest_cores.Goals as goal
 
@@ -22,7 +21,7 @@ pub overflow_cast-result : goal.overflow_cast-result
 overflow_cast-result c = omega arith
 
 pub returns-then-memory_fits : goal.returns-then-memory_fits
-returns-then-memory_fits c = 
+returns-then-memory_fits c =
     let a = c.args in
     let l = c.loop-p in
     let k = chain_of a.costs.now a.board in
@@ -32,7 +31,7 @@ pub loop-p-smaller : goal.loop-p-smaller
 loop-p-smaller c = omega arith
 
 pub loop-p-preserved : goal.loop-p-preserved
-loop-p-preserved c = 
+loop-p-preserved c =
     let a = c.args in
     let l = c.loop-p in
     let k = chain_of a.costs.now a.board in
@@ -45,7 +44,7 @@ pub overflow_add-result : goal.overflow_add-result
 overflow_add-result c = omega arith
 
 pub returns : goal.returns
-returns c = 
+returns c =
     let a = c.args in
     let l = c.loop-p in
     omega (arith, fewest_end (chain_of a.costs.now a.board) a.first a.last l.p a.board.cores (omega arith))

@@ -1,11 +1,8 @@
 -- `fewest_cores` is `fewest_cores`: what the search from p on finds is what the whole search finds.
-use mathlib.Core.Path.{◌≡◌, sym, ◌∙◌}
+use mathlib.Core.Path.{◌≡◌}
 use Prim.Native.Nat.{◌-◌, ◌≤◌}
-use native.Mathlib.Nat.{sub-zero}
-use native.Mathlib.Omega.{arith}
 use Rattle.modules.specs.Model.{chain_of}
 use Rattle.modules.specs.Rules.{fewest_cores, fewest_from}
-use Rattle.modules.proofs.Fewest.{fewest_here, fewest_next, fewest_end}
 use Rattle.modules.proofs.rules.fewest_cores.Given as goal
 
 abbrev pub invariant-loop-p : goal.invariant-loop-p

@@ -1,6 +1,5 @@
 -- `memory_fits` is `memory_fits`: on no cores nothing fits, else the sum of the shares decides.
 use native.Mathlib.Omega.{arith}
-use borrow.Author.Rules.{rules}
 use borrow.Author.Tests.{le-leb, lt-leb}
 use Rattle.modules.specs.Rules.{memory_fits}
 use Rattle.modules.proofs.rules.memory_fits.Goals as goal
@@ -11,6 +10,6 @@ returns-then-p-lt1 c = simp (lt-leb 1 c.args.p (omega arith))
 
 pub returns : goal.returns
 unfolding memory_fits
-returns c = 
+returns c =
     let a = c.args in
     simp (le-leb 1 a.p (omega arith), ← c.shares.ensures)

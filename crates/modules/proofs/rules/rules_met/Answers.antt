@@ -1,6 +1,4 @@
 -- `rules_met` is `module_rules`: each test decides whether the next is due.
-use borrow.Author.Rules.{rules}
-use borrow.Author.Tests.{not-true, not-false}
 use Rattle.modules.specs.Rules.{module_rules}
 use Rattle.modules.proofs.rules.rules_met.Goals as goal
 

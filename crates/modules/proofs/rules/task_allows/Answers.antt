@@ -1,5 +1,4 @@
 -- `task_allows` is `allows` at the task's limit: the test of 0 decides which side of the disjunction is due.
-use borrow.Author.Rules.{rules}
 use borrow.Author.Tests.{eq-eqb, ne_eqb}
 use Rattle.modules.specs.Rules.{allows}
 use Rattle.modules.proofs.rules.task_allows.Goals as goal

@@ -1,11 +1,8 @@
 -- `within_limit` is `within_limit`: while each task allows the cores, what is left decides as the whole does.
-use mathlib.Core.Path.{◌≡◌, refl, sym, ◌∙◌}
+use mathlib.Core.Path.{◌≡◌}
 use Prim.Native.Nat.{◌-◌, ◌≤◌}
-use native.Mathlib.Omega.{arith}
-use borrow.Author.Tests.{not-true, not-false}
 use Rattle.modules.specs.Model.{chain_of}
 use Rattle.modules.specs.Rules.{within_limit}
-use Rattle.modules.proofs.Limiting.{within_none, within_next, within_not, within_last}
 use Rattle.modules.proofs.rules.within_limit.Given as goal
 
 abbrev pub invariant-loop-t : goal.invariant-loop-t
