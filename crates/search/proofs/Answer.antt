@@ -7,7 +7,7 @@ use mathlib.Core.Bool.{Bool}
 use mathlib.Core.Logic.{inl, inr}
 use mathlib.Core.List.{List}
 use mathlib.Core.Option.{none, some}
-use lib.Dec.{T, leb, leb→le, le→leb, ltb, ltb→lt, lt→ltb, nltb→le, not_T}
+use lib.Dec.{T, leb, leb→le, le→leb, ltb→lt, lt→ltb, nltb→le, not_T}
 use Rattle.records.proofs.Cases.{lt_or_le}
 use Rattle.modules.specs.declared.Module.{Module}
 use Rattle.figures.specs.Model.{cores_of}

@@ -12,7 +12,7 @@ use Rattle.figures.specs.Model.{head_cores, cores_of}
 use Rattle.search.specs.Plan.{module_after}
 use Rattle.search.proofs.Tests.{and_l, and_r, and_i, or_e, or_l, or_r}
 use Rattle.slack.specs.Split.{Split, keeps, serves, Serving}
-use Rattle.slack.specs.Slack.{Slack, goes_on_lem, leaves, one_way, over_copies, over_next, over_last, slack_by, slack}
+use Rattle.slack.specs.Slack.{Slack, goes_on, leaves, one_way, over_copies, over_next, over_last, slack_by, slack}
 use Rattle.slack.proofs.Greatest.{below_le, below_pick, pick_below, greatest_ge, greatest_at}
 use Rattle.slack.proofs.Split.{keeps_fair, cores_le, serves_keeps, serves_time, serves_tail, serves_cons}
 
@@ -27,7 +27,7 @@ module _ (S : Split) where
     pub next : q' ≤ b
     pub kept : T (keeps S t l r q)
     pub room : r * q ≤ b
-    pub on : T (goes_on_lem S rest l q q' (b - r * q))
+    pub on : T (goes_on S rest l q q' (b - r * q))
     pub time : x + S.own t l r q + S.send l q q' ≤ S.time r
 
   -- what is below the greatest over all ways is below one
@@ -39,7 +39,7 @@ module _ (S : Split) where
       let (r, hr, er) = greatest_at (suc b) (one_way S rest t q b l q') x eq in
       let k = keeps S t l r q in
       let c = leb (r * q) b in
-      let g = goes_on_lem S rest l q q' (b - r * q) in
+      let g = goes_on S rest l q q' (b - r * q) in
       let (u, v) = below_pick (k && c && g) x (leaves S t q l q' r) er in
       record {
         l = l;
@@ -60,7 +60,7 @@ module _ (S : Split) where
       let r = w.r in
       let k = keeps S t l r q in
       let c = leb (r * q) b in
-      let g = goes_on_lem S rest l q q' (b - r * q) in
+      let g = goes_on S rest l q q' (b - r * q) in
       let f = keeps_fair S t l r q w.kept in
       let d = cores_le S t l r q w.kept in
       le_trans (pick_below (k && c && g) x (leaves S t q l q' r)
@@ -114,7 +114,7 @@ module _ (S : Split) where
   module _ (x t : ℕ) (y : Module) where
     goes_on_lem : (rest : Slack) (ms : List Module) (n : ℕ) → T (serves S x t (y ∷ ms))
         → (1 ≤ head_cores ms → S.send y.last y.cores (head_cores ms) < rest y.last (head_cores ms) n)
-        → T (goes_on_lem S rest y.last y.cores (head_cores ms) n)
+        → T (goes_on S rest y.last y.cores (head_cores ms) n)
     goes_on_lem rest [] n v h =
         or_l (eqb y.last S.tasks && eqb 0 0) (ltb (S.send y.last y.cores 0) (rest y.last 0 n))
         (and_i (eqb y.last S.tasks) (eqb 0 0) (serves_tail S x t y [] v) tt)
@@ -191,7 +191,7 @@ module _ (S : Split) where
   -- ---- going on
 
   -- the next module's cores are among the rest's
-  pub goes_on_next : (l q q' b : ℕ) → T (goes_on_lem S (slack S) l q q' b) → q' ≤ b
+  pub goes_on_next : (l q q' b : ℕ) → T (goes_on S (slack S) l q q' b) → q' ≤ b
   goes_on_next l q q' b t =
       let e = eqb l S.tasks && eqb q' 0 in
       let n = S.send l q q' in

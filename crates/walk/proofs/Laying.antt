@@ -15,7 +15,7 @@ use Rattle.layout.specs.Layout.{most_modules, encode_plan, put_module}
 use Rattle.layout.proofs.Placing.{encode_length, put_bytes}
 use Rattle.search.specs.Least.{pick}
 use Rattle.search.specs.Plan.{cap}
-use Rattle.search.specs.Walk.{chosen, room_after_lem, First}
+use Rattle.search.specs.Walk.{chosen, room_after, First}
 use Rattle.search.specs.Loops.{Walking}
 use Rattle.search.proofs.Tests.{bool_eq}
 use Rattle.search.proofs.Least.{least_at}
@@ -136,8 +136,8 @@ module _ (c : Chain) (n : ℕ) where
           pub next_room : room ≡ 0 → ⊥
           next_room z = comes_room c n m x.last x.copies x.cores passes (sym e ∙ z)
 
-          room_after_lem : (spare whole : ℕ) → room_after_lem (problem c) (sparing_on c n) m.cores m.last (room_of c n m) x ≡ room_of c n (after m x spare whole room)
-          unfolding room_after_lem room_of
+          room_after_lem : (spare whole : ℕ) → room_after (problem c) (sparing_on c n) m.cores m.last (room_of c n m) x ≡ room_of c n (after m x spare whole room)
+          unfolding room_after room_of
           room_after_lem spare whole = fun_ext (λ q.
               rw (ne_eqb x.last 0 (λ z. omega (arith, next_has.1.fits.later)))
               (ap (λ v. pick (sparing_on c n m.cores m.last x.last x.copies x.cores q) (v - price c m.last x.last x.copies x.cores q) 0) (sym e)))
@@ -168,6 +168,6 @@ module _ (c : Chain) (n : ℕ) where
               right = right_next;
               walking = subst (Walking (problem c) (sparing_on c n) (plan_on c n) (laid.done ++ (x ∷ [])) (laid.left - 1) x.cores x.last) (room_after_lem (left - x.copies * x.cores) whole)
                   (subst (λ y. Walking (problem c) (sparing_on c n) (plan_on c n) (laid.done ++ (y ∷ [])) (laid.left - 1) y.cores y.last
-                  (room_after_lem (problem c) (sparing_on c n) m.cores m.last (room_of c n m) y)) (sym is)
+                  (room_after (problem c) (sparing_on c n) m.cores m.last (room_of c n m) y)) (sym is)
                   (walking_next (problem c) (problem_priced c) (sparing_on c n) (sparing_fair (problem c) n (enough_on c n)) (plan_on c n) laid.done m.cores m.last (room_of c n m) laid.left laid.walking more));
             }

@@ -1,13 +1,12 @@
 -- `module_line` appends its five numbers, one piece after the other.
 use mathlib.Core.List.{append_assoc}
 use native.Mathlib.Omega.{arith}
-use borrow.Author.Rules.{rules}
 use Rattle.console.specs.Text.{module_line}
 use Rattle.console.proofs.lines.module_line.Goals as goal
 
 pub returns : goal.returns
 unfolding module_line
-returns c = 
+returns c =
     let p = c.spaced-cores in
     let r = c.spaced-copies in
     let last = c.spaced-last in

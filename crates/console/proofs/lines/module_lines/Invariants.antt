@@ -1,12 +1,9 @@
 -- `module_lines` is `module_lines`: after each turn one line more stands at the end.
-use mathlib.Core.Path.{◌≡◌, sym, ◌∙◌}
+use mathlib.Core.Path.{◌≡◌}
 use Prim.Native.Nat.{◌-◌, ◌*◌, ◌≤◌}
-use native.Mathlib.Omega.{arith}
-use borrow.Author.Rules.{rules}
 use Rattle.modules.specs.Model.{chain_of}
 use Rattle.console.specs.Text.{text_of, module_lines}
 use Rattle.console.specs.Room.{line_room}
-use Rattle.console.proofs.Reported.{lines_none, lines_more}
 use Rattle.console.proofs.lines.module_lines.Given as goal
 
 abbrev pub invariant-loop-i : goal.invariant-loop-i

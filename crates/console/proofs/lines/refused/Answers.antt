@@ -11,7 +11,7 @@ use Rattle.console.proofs.lines.refused.Goals as goal
 
 pub returns : goal.returns
 unfolding refused_line
-returns c = 
+returns c =
     let number = c.spaced-number in
     let named = c.with_text-named in
     let empty = c.blank in

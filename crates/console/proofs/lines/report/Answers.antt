@@ -9,13 +9,13 @@ use Rattle.console.proofs.Reported.{report_plan, report_refusal}
 use Rattle.console.proofs.lines.report.Goals as goal
 
 pub returns-then-answer-ne0 : goal.returns-then-answer-ne0
-returns-then-answer-ne0 c = 
+returns-then-answer-ne0 c =
     let a = c.args in
     let e = report_refusal a.costs.now a.answer a.plan.now c.if-answer-ne0.true in
     (c.refused.ensures.0 ∙ sym e, c.refused.ensures.1)
 
 pub returns : goal.returns
-returns c = 
+returns c =
     let a = c.args in
     let e = report_plan a.costs.now a.answer a.plan.now c.if-answer-ne0.false in
     let r = c.slowest_line.result in

@@ -1,13 +1,12 @@
 -- `slowest_line` appends its words and numbers, one piece after the other.
 use mathlib.Core.List.{append_assoc}
 use native.Mathlib.Omega.{arith}
-use borrow.Author.Rules.{rules}
 use Rattle.console.specs.Text.{slowest_line}
 use Rattle.console.proofs.lines.slowest_line.Goals as goal
 
 pub returns : goal.returns
 unfolding slowest_line
-returns c = 
+returns c =
     let cores = c.with_text-cores in
     let copies = c.spaced-copies in
     let response = c.spaced-response in

@@ -10,7 +10,7 @@ use Rattle.console.proofs.lines.too_long.Goals as goal
 
 pub returns : goal.returns
 unfolding too_long
-returns c = 
+returns c =
     let r = c.with_text.result in
     let long : length r.bytes ≡ room = search rules in
     (rw (c.with_text.ensures.0, c.blank.ensures.0) (refl), counts r.length r.bytes (omega arith))

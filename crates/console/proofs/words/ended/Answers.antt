@@ -1,7 +1,6 @@
 -- `ended` appends the number and the end of the line, one piece after the other.
 use mathlib.Core.List.{append_assoc}
 use native.Mathlib.Omega.{arith}
-use borrow.Author.Rules.{rules}
 use Rattle.console.specs.Text.{ended}
 use Rattle.console.proofs.words.ended.Goals as goal
 

@@ -1,7 +1,6 @@
 -- `spaced` appends the number and the space, one piece after the other.
 use mathlib.Core.List.{append_assoc}
 use native.Mathlib.Omega.{arith}
-use borrow.Author.Rules.{rules}
 use Rattle.console.specs.Text.{spaced}
 use Rattle.console.proofs.words.spaced.Goals as goal
 

@@ -1,19 +1,18 @@
 -- `with_number` appends `decimal`: the digits that `io::decimal` promises are those.
 use mathlib.Core.Path.{refl}
 use native.Mathlib.Omega.{arith}
-use borrow.Author.Rules.{rules}
 use Rattle.console.proofs.Digits.{digits_few, digits_decimal}
 use Rattle.console.proofs.words.with_number.Goals as goal
 
 pub with_text-requires : goal.with_text-requires
-with_text-requires c = 
+with_text-requires c =
     let d = c.decimal-k in
-    let few = digits_few c.args.n d.result c.ranges.n.fits d.ensures.1.0 in
+    let few = digits_few c.args.n d.result c.ranges.n.fits d.ensures.len in
     omega arith
 
 pub returns : goal.returns
-returns c = 
+returns c =
     let d = c.decimal-k in
     let n = c.args.n in
-    let few = digits_few n d.result c.ranges.n.fits d.ensures.1.0 in
-    (rw (c.with_text.ensures.0, d.ensures.1.1, digits_decimal n d.result c.ranges.n.fits d.ensures.1.0) (refl), omega arith)
+    let few = digits_few n d.result c.ranges.n.fits d.ensures.len in
+    (rw (c.with_text.ensures.0, d.ensures.digits, digits_decimal n d.result c.ranges.n.fits d.ensures.len) (refl), omega arith)

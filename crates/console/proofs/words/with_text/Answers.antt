@@ -1,17 +1,16 @@
 -- `with_text` copies: after each turn one byte more of the words stands behind the text.
 use mathlib.Core.Path.{◌≡◌, refl}
-use Prim.Native.Nat.{◌-◌, ◌≤◌}
 use native.Mathlib.Numerals.{add-one}
 use native.Mathlib.Omega.{arith}
 use borrow.Author.Rules.{rules}
 use lib.ListN.{length, length-set}
-use lib.Seq.{paste, paste-zero, paste-suc, take-paste, take_all}
+use lib.Seq.{paste-zero, paste-suc, take-paste, take_all}
 use Rattle.console.specs.Text.{text_of}
 use Rattle.console.specs.Room.{room}
 use Rattle.console.proofs.words.with_text.Goals as goal
 
 pub loop-i-init : goal.loop-i-init
-loop-i-init c = 
+loop-i-init c =
     let a = c.args in
     (omega arith, search rules, paste-zero a.t.bytes a.t.length a.words.now)
 
@@ -31,7 +30,7 @@ pub loop-i-smaller : goal.loop-i-smaller
 loop-i-smaller c = omega arith
 
 pub loop-i-preserved : goal.loop-i-preserved
-loop-i-preserved c = 
+loop-i-preserved c =
     let a = c.args in
     let l = c.loop-i in
     let long : length a.t.bytes ≡ room = search rules in
@@ -43,7 +42,7 @@ overflow_add-end c = omega arith
 
 pub returns : goal.returns
 unfolding text_of
-returns c = 
+returns c =
     let a = c.args in
     let l = c.loop-i in
     let long : length a.t.bytes ≡ room = search rules in

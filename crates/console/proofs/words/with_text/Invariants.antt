@@ -1,12 +1,8 @@
 -- `with_text` copies: after each turn one byte more of the words stands behind the text.
-use mathlib.Core.Path.{◌≡◌, refl}
+use mathlib.Core.Path.{◌≡◌}
 use Prim.Native.Nat.{◌-◌, ◌≤◌}
-use native.Mathlib.Numerals.{add-one}
-use native.Mathlib.Omega.{arith}
-use borrow.Author.Rules.{rules}
-use lib.ListN.{length, length-set}
-use lib.Seq.{paste, paste-zero, paste-suc, take-paste, take_all}
-use Rattle.console.specs.Text.{text_of}
+use lib.ListN.{length}
+use lib.Seq.{paste}
 use Rattle.console.specs.Room.{room}
 use Rattle.console.proofs.words.with_text.Given as goal
 

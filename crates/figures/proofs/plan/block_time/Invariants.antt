@@ -1,14 +1,9 @@
 -- `block_time` is `block_time`: what is added up and what is left of the time are the whole, twelve modules at most.
-use mathlib.Core.Path.{◌≡◌, ◌∙◌}
+use mathlib.Core.Path.{◌≡◌}
 use Prim.Native.Nat.{◌+◌, ◌-◌, ◌*◌, ◌≤◌}
-use native.Mathlib.Nat.{sub-zero}
-use native.Mathlib.Omega.{arith}
-use borrow.Author.Rules.{rules}
 use Rattle.modules.specs.Model.{chain_of}
-use Rattle.layout.specs.Layout.{modules_from, modules_of}
-use Rattle.layout.proofs.Turns.{record_here}
+use Rattle.layout.specs.Layout.{modules_from}
 use Rattle.figures.specs.Model.{block_time}
-use Rattle.figures.proofs.Listed.{time_step, time_end}
 use Rattle.figures.proofs.plan.block_time.Given as goal
 
 abbrev pub invariant-loop-i : goal.invariant-loop-i

@@ -5,7 +5,6 @@ use native.Mathlib.Omega.{arith}
 use Rattle.layout.proofs.Turns.{record_here}
 use Rattle.figures.specs.Plan.{cores_before}
 use Rattle.figures.proofs.Listed.{cores_before_some}
-use borrow.Author.Rules.{rules}
 use Rattle.figures.proofs.plan.cores_before.Goals as goal
 
 pub returns-then-i-eq0 : goal.returns-then-i-eq0

@@ -1,13 +1,8 @@
 -- `cores_of` is `cores_of`: what is added up and what is left of the sum are the whole.
-use mathlib.Core.Path.{◌≡◌, ◌∙◌}
+use mathlib.Core.Path.{◌≡◌}
 use Prim.Native.Nat.{◌+◌, ◌-◌, ◌*◌, ◌≤◌}
-use native.Mathlib.Nat.{sub-zero}
-use native.Mathlib.Omega.{arith}
-use Rattle.records.proofs.Bounds.{product_of_bytes}
 use Rattle.layout.specs.Layout.{modules_from}
-use Rattle.layout.proofs.Turns.{record_here}
 use Rattle.figures.specs.Model.{cores_of}
-use Rattle.figures.proofs.Listed.{cores_step, cores_end}
 use Rattle.figures.proofs.plan.cores_of.Given as goal
 
 abbrev pub invariant-loop-i : goal.invariant-loop-i

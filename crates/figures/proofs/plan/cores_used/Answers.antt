@@ -1,6 +1,5 @@
 -- `cores_used` is the cores of the modules that are counted.
 use mathlib.Core.Path.{refl}
-use borrow.Author.Rules.{rules}
 use Rattle.layout.specs.Layout.{modules_of}
 use Rattle.figures.proofs.plan.cores_used.Goals as goal
 

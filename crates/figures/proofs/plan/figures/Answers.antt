@@ -3,7 +3,6 @@ use mathlib.Core.Path.{refl}
 use Rattle.layout.specs.Layout.{modules_of}
 use Rattle.figures.specs.Plan.{figures_of}
 use Rattle.figures.proofs.Listed.{modules_length}
-use borrow.Author.Rules.{rules}
 use Rattle.figures.proofs.plan.figures.Goals as goal
 
 pub returns : goal.returns

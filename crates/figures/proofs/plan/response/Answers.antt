@@ -4,7 +4,6 @@ use Rattle.modules.specs.Model.{chain_of}
 use Rattle.layout.specs.Layout.{modules_of}
 use Rattle.figures.specs.Plan.{response_at}
 use Rattle.figures.proofs.Listed.{response_some, response_none}
-use borrow.Author.Rules.{rules}
 use Rattle.figures.proofs.plan.response.Goals as goal
 
 pub returns-then-i-count : goal.returns-then-i-count

@@ -4,7 +4,6 @@ use native.Mathlib.Nat.{mul-le-mul}
 use native.Mathlib.Omega.{arith}
 use borrow.Author.Tests.{lt-ltb, le-ltb}
 use Rattle.figures.specs.Model.{slower_of}
-use borrow.Author.Rules.{rules}
 use Rattle.figures.proofs.plan.slower.Goals as goal
 
 response-by-copies : (x y : ℕ) → x < 8796093022208 → y < 256 → x * y ≤ 8796093022208 * 256

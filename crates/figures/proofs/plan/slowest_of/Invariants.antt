@@ -1,12 +1,10 @@
 -- `slowest_of` is `bottleneck`: the slowest of x and what is left is that of the whole, and x is the slower of two bounded.
-use mathlib.Core.Path.{◌≡◌, sym, ◌∙◌}
+use mathlib.Core.Path.{◌≡◌}
 use Prim.Native.Nat.{◌+◌, ◌-◌, ◌≤◌, ◌<◌}
-use native.Mathlib.Omega.{arith}
 use Rattle.modules.specs.Model.{chain_of}
 use Rattle.layout.specs.Layout.{modules_from}
 use Rattle.figures.specs.Model.{slowest_from, bottleneck}
 use Rattle.figures.specs.Plan.{cores_before}
-use Rattle.figures.proofs.Listed.{slowest_start, slowest_next, slowest_end, slower_keeps}
 use Rattle.figures.proofs.plan.slowest_of.Given as goal
 
 abbrev pub invariant-loop-i : goal.invariant-loop-i

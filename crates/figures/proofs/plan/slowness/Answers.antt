@@ -4,7 +4,6 @@ use native.Mathlib.Omega.{arith}
 use Rattle.modules.specs.Model.{chain_of}
 use Rattle.layout.proofs.Turns.{record_here}
 use Rattle.figures.proofs.Listed.{slowness_made}
-use borrow.Author.Rules.{rules}
 use Rattle.figures.proofs.plan.slowness.Goals as goal
 
 pub returns : goal.returns

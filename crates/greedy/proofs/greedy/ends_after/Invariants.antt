@@ -1,10 +1,6 @@
 -- `ends_after` is a bit of the grouping: after each turn the rest is the grouping shifted by one place more.
-use mathlib.Core.Path.{◌≡◌, sym}
-use Prim.Native.Nat.{◌+◌, ◌-◌, ◌/◌, ◌^◌, ◌≤◌}
-use native.Mathlib.Nat.{div-one}
-use native.Mathlib.Omega.{arith}
-use lib.Pow.{shr-shr}
-use Rattle.greedy.specs.Greedy.{bit}
+use mathlib.Core.Path.{◌≡◌}
+use Prim.Native.Nat.{◌-◌, ◌/◌, ◌^◌, ◌≤◌}
 use Rattle.greedy.proofs.greedy.ends_after.Given as goal
 
 abbrev pub invariant-loop-i : goal.invariant-loop-i

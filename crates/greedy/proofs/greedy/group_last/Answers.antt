@@ -1,8 +1,6 @@
 -- `group_last` is `last_of`: the last task found from t on is the one found from the first task on.
-use mathlib.Core.Path.{◌≡◌, refl, sym, ◌∙◌}
-use Prim.Native.Nat.{◌-◌, ◌≤◌}
+use mathlib.Core.Path.{refl, sym, ◌∙◌}
 use native.Mathlib.Omega.{arith}
-use Rattle.greedy.specs.Assignment.{last_of}
 use Rattle.greedy.proofs.Starting.{last_here, last_next, last_end}
 use Rattle.greedy.proofs.greedy.group_last.Goals as goal
 
@@ -13,7 +11,7 @@ pub ends_after-requires : goal.ends_after-requires
 ends_after-requires c = omega arith
 
 pub returns-then-ends_after : goal.returns-then-ends_after
-returns-then-ends_after c = 
+returns-then-ends_after c =
     let a = c.args in
     let l = c.loop-t in
     let here = last_here a.grouping l.t a.k (omega arith) c.ends_after.ensures c.if-ends_after.true in
@@ -26,14 +24,14 @@ pub loop-t-smaller : goal.loop-t-smaller
 loop-t-smaller c = omega arith
 
 pub loop-t-preserved : goal.loop-t-preserved
-loop-t-preserved c = 
+loop-t-preserved c =
     let a = c.args in
     let l = c.loop-t in
     let next = last_next a.grouping l.t a.k (omega arith) c.ends_after.ensures c.if-ends_after.false in
     (omega arith, omega arith, l.invariant.2 ∙ next)
 
 pub returns : goal.returns
-returns c = 
+returns c =
     let a = c.args in
     let l = c.loop-t in
     (sym (l.invariant.2 ∙ last_end a.grouping l.t a.k (omega arith)), omega arith, omega arith)

@@ -1,9 +1,7 @@
 -- `group_last` is `last_of`: the last task found from t on is the one found from the first task on.
-use mathlib.Core.Path.{◌≡◌, refl, sym, ◌∙◌}
+use mathlib.Core.Path.{◌≡◌}
 use Prim.Native.Nat.{◌-◌, ◌≤◌}
-use native.Mathlib.Omega.{arith}
 use Rattle.greedy.specs.Assignment.{last_of}
-use Rattle.greedy.proofs.Starting.{last_here, last_next, last_end}
 use Rattle.greedy.proofs.greedy.group_last.Given as goal
 
 abbrev pub invariant-loop-t : goal.invariant-loop-t

@@ -1,6 +1,6 @@
 -- `groupings` is a power of 2, doubled with each turn.
 use mathlib.Core.Path.{◌≡◌, refl}
-use Prim.Native.Nat.{suc, ◌+◌, ◌-◌, ◌^◌, ◌≤◌}
+use Prim.Native.Nat.{suc, ◌+◌, ◌-◌}
 use native.Mathlib.Nat.{pow-suc}
 use native.Mathlib.Omega.{arith}
 use lib.Pow.{pow_mono}
@@ -19,12 +19,12 @@ pub loop-i-smaller : goal.loop-i-smaller
 loop-i-smaller c = omega arith
 
 pub loop-i-preserved : goal.loop-i-preserved
-loop-i-preserved c = 
+loop-i-preserved c =
     let l = c.loop-i in
     let e : l.i + 1 - 1 ≡ suc (l.i - 1) = omega arith in
     (omega arith, omega arith, rw (l.invariant.2, e, pow-suc))
 
 pub returns : goal.returns
-returns c = 
+returns c =
     let e : c.loop-i.i ≡ c.args.k = omega arith in
     rw (c.loop-i.invariant.2, e)

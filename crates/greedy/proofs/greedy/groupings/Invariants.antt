@@ -1,9 +1,6 @@
 -- `groupings` is a power of 2, doubled with each turn.
-use mathlib.Core.Path.{◌≡◌, refl}
-use Prim.Native.Nat.{suc, ◌+◌, ◌-◌, ◌^◌, ◌≤◌}
-use native.Mathlib.Nat.{pow-suc}
-use native.Mathlib.Omega.{arith}
-use lib.Pow.{pow_mono}
+use mathlib.Core.Path.{◌≡◌}
+use Prim.Native.Nat.{◌-◌, ◌^◌, ◌≤◌}
 use Rattle.greedy.proofs.greedy.groupings.Given as goal
 
 abbrev pub invariant-loop-i : goal.invariant-loop-i

@@ -1,11 +1,9 @@
 -- `put_start` fills in the start, module by module; no module needs more than 33 cores, so the sum is at most 33 a module.
-use mathlib.Core.Path.{◌≡◌, refl, ◌∙◌}
+use mathlib.Core.Path.{◌≡◌}
 use Prim.Native.Nat.{◌+◌, ◌-◌, ◌*◌, ◌≤◌, ◌<◌}
-use native.Mathlib.Omega.{arith}
 use lib.ListN.{length}
 use Rattle.modules.specs.Model.{chain_of}
-use Rattle.greedy.proofs.Filling.{Filled, fill_none, fill_more, fill_all}
-use Rattle.greedy.proofs.Starting.{fewest_range}
+use Rattle.greedy.proofs.Filling.{Filled}
 use Rattle.greedy.proofs.greedy.put_start.Given as goal
 
 abbrev pub invariant-loop-first : goal.invariant-loop-first

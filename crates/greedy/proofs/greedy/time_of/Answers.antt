@@ -2,7 +2,6 @@
 use mathlib.Core.Path.{ap}
 use Rattle.figures.specs.declared.Answer.{Answer}
 use Rattle.figures.specs.Plan.{figures_of}
-use borrow.Author.Rules.{rules}
 use Rattle.greedy.proofs.greedy.time_of.Goals as goal
 
 pub returns : goal.returns

@@ -1,9 +1,8 @@
 -- `walk` is `greedy_from`: what is left of the walk, from the latest assignment and the best so far, ends as the whole does.
-use native.Mathlib.Omega.{arith}
-use Rattle.modules.specs.Model.{Chain, chain_of}
+use Rattle.modules.specs.Model.{chain_of}
 use Rattle.layout.specs.Layout.{modules_of}
 use Rattle.greedy.specs.Greedy.{greedy_from}
-use Rattle.greedy.proofs.Walking.{Underway, walk_starts, walk_ended, walk_stopped, walk_better, walk_worse}
+use Rattle.greedy.proofs.Walking.{Underway}
 use Rattle.greedy.proofs.greedy.walk.Given as goal
 
 abbrev pub invariant-loop-n : goal.invariant-loop-n

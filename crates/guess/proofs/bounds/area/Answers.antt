@@ -1,8 +1,7 @@
 -- `area` starts from a number of 32 bits and only takes less; a time of 32 bits times at most 255 cores fits 64.
-use Prim.Native.Nat.{◌+◌, ◌-◌, ◌<◌}
+use Prim.Native.Nat.{◌+◌}
 use native.Mathlib.Nat.{mul-le-mul}
 use native.Mathlib.Omega.{arith}
-use borrow.Author.Rules.{rules}
 use Rattle.guess.proofs.bounds.area.Goals as goal
 
 pub loop-q-init : goal.loop-q-init
@@ -18,7 +17,7 @@ pub overflow_cast-own-in-loop-q : goal.overflow_cast-own-in-loop-q
 overflow_cast-own-in-loop-q c = omega arith
 
 pub overflow_mul-own : goal.overflow_mul-own
-overflow_mul-own c = 
+overflow_mul-own c =
     let m = mul-le-mul {n₁ = c.execution.result} {m₁ = c.loop-q.q + 1} {n₂ = 4294967295} {m₂ = 255} (omega arith) (omega arith) in
     omega (arith, m)
 

@@ -1,8 +1,5 @@
 -- `area` starts from a number of 32 bits and only takes less; a time of 32 bits times at most 255 cores fits 64.
-use Prim.Native.Nat.{◌+◌, ◌-◌, ◌<◌}
-use native.Mathlib.Nat.{mul-le-mul}
-use native.Mathlib.Omega.{arith}
-use borrow.Author.Rules.{rules}
+use Prim.Native.Nat.{◌-◌, ◌<◌}
 use Rattle.guess.proofs.bounds.area.Given as goal
 
 abbrev pub invariant-loop-q : goal.invariant-loop-q

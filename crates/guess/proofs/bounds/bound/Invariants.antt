@@ -1,7 +1,5 @@
 -- `bound` adds up at most 32 bits for each task, and divides by some cores.
 use Prim.Native.Nat.{◌-◌, ◌*◌, ◌≤◌}
-use native.Mathlib.Omega.{arith}
-use borrow.Author.Rules.{rules}
 use Rattle.guess.proofs.bounds.bound.Given as goal
 
 abbrev pub invariant-loop-t : goal.invariant-loop-t

@@ -1,8 +1,5 @@
 -- `least_alone` starts from the greatest threshold plus one, and only takes less.
-use Prim.Native.Nat.{◌+◌, ◌-◌, ◌≤◌}
 use native.Mathlib.Omega.{arith}
-use borrow.Author.Rules.{rules}
-use Rattle.slack.specs.Problem.{top_threshold}
 use Rattle.guess.proofs.bounds.least_alone.Goals as goal
 
 pub overflow_add-least : goal.overflow_add-least

@@ -4,7 +4,6 @@ use mathlib.Core.Path.{sym}
 use Prim.Native.Nat.{◌+◌, ◌-◌, ◌*◌, ◌%◌}
 use native.Mathlib.Nat.{div-le_self, mod-lt}
 use native.Mathlib.Omega.{arith}
-use borrow.Author.Rules.{rules}
 use Rattle.slack.specs.Problem.{grain}
 use Rattle.guess.proofs.Thresholds.{none_where_long, none_without_copies, ticks_each, from_whole_and_rest}
 use Rattle.guess.proofs.bounds.threshold_of.Goals as goal
@@ -25,7 +24,7 @@ pub overflow_add-result-2 : goal.overflow_add-result-2
 overflow_add-result-2 c = omega (arith, mod-lt c.args.response {m = c.args.copies} (omega arith))
 
 pub overflow_add-result-3 : goal.overflow_add-result-3
-overflow_add-result-3 c = 
+overflow_add-result-3 c =
     let a = c.args in
     let whole = ticks_each a.response a.copies (omega arith) (omega arith) in
     let rest = mod-lt a.response {m = a.copies} (omega arith) in

@@ -1,10 +1,8 @@
 -- `blank_fault` is `blank_fault`: what is found from record i on is what is found from the first one on.
-use mathlib.Core.Path.{◌≡◌, refl, sym, ◌∙◌}
-use Prim.Native.Nat.{◌-◌, ◌≤◌}
+use mathlib.Core.Path.{refl, sym, ◌∙◌}
 use native.Mathlib.Omega.{arith}
 use Rattle.layout.specs.Layout.{most_modules}
 use Rattle.layout.proofs.Turns.{record_here}
-use Rattle.judge.specs.Judge.{blank_fault}
 use Rattle.judge.proofs.Turns.{blank_here, blank_next, blank_end}
 use Rattle.judge.proofs.verdict.blank_fault.Goals as goal
 
@@ -21,7 +19,7 @@ pub is_blank-requires : goal.is_blank-requires
 is_blank-requires c = tt
 
 pub returns-then-not-is_blank : goal.returns-then-not-is_blank
-returns-then-not-is_blank c = 
+returns-then-not-is_blank c =
     let a = c.args in
     let l = c.loop-i in
     let m = c.module_at-m.ensures ∙ record_here a.plan.now l.i (omega arith) in
@@ -31,13 +29,13 @@ pub loop-i-smaller : goal.loop-i-smaller
 loop-i-smaller c = omega arith
 
 pub loop-i-preserved : goal.loop-i-preserved
-loop-i-preserved c = 
+loop-i-preserved c =
     let a = c.args in
     let l = c.loop-i in
     let m = c.module_at-m.ensures ∙ record_here a.plan.now l.i (omega arith) in
     (omega arith, l.invariant.1 ∙ blank_next a.plan.now l.i most_modules (omega arith) m c.is_blank.ensures c.if-not-is_blank.false-raw)
 
 pub returns : goal.returns
-returns c = 
+returns c =
     let l = c.loop-i in
     sym (l.invariant.1 ∙ blank_end c.args.plan.now l.i most_modules (omega arith))

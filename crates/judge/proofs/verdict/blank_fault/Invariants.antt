@@ -1,11 +1,8 @@
 -- `blank_fault` is `blank_fault`: what is found from record i on is what is found from the first one on.
-use mathlib.Core.Path.{◌≡◌, refl, sym, ◌∙◌}
+use mathlib.Core.Path.{◌≡◌}
 use Prim.Native.Nat.{◌-◌, ◌≤◌}
-use native.Mathlib.Omega.{arith}
 use Rattle.layout.specs.Layout.{most_modules}
-use Rattle.layout.proofs.Turns.{record_here}
 use Rattle.judge.specs.Judge.{blank_fault}
-use Rattle.judge.proofs.Turns.{blank_here, blank_next, blank_end}
 use Rattle.judge.proofs.verdict.blank_fault.Given as goal
 
 abbrev pub invariant-loop-i : goal.invariant-loop-i

@@ -2,30 +2,29 @@
 use native.Mathlib.Omega.{arith}
 use borrow.Author.Tests.{eq-eqb, ne_eqb, le-leb, lt-leb}
 use Rattle.judge.specs.Judge.{is_module}
-use borrow.Author.Rules.{rules}
 use Rattle.judge.proofs.verdict.is_module.Goals as goal
 
 pub returns-then-m-due : goal.returns-then-m-due
 unfolding is_module
-returns-then-m-due c = 
+returns-then-m-due c =
     let a = c.args in
     simp (ne_eqb a.m.first a.due c.if-m-due.true)
 
 pub returns-then-m : goal.returns-then-m
 unfolding is_module
-returns-then-m c = 
+returns-then-m c =
     let a = c.args in
     simp (eq-eqb a.m.first a.due (omega arith), lt-leb a.m.first a.m.last (omega arith))
 
 pub returns-then-k-m : goal.returns-then-k-m
 unfolding is_module
-returns-then-k-m c = 
+returns-then-k-m c =
     let a = c.args in
     simp (eq-eqb a.m.first a.due (omega arith), le-leb a.m.first a.m.last (omega arith), lt-leb a.m.last a.k (omega arith))
 
 pub returns-then-m-lt1 : goal.returns-then-m-lt1
 unfolding is_module
-returns-then-m-lt1 c = 
+returns-then-m-lt1 c =
     let a = c.args in
     simp (
       eq-eqb a.m.first a.due (omega arith),
@@ -36,7 +35,7 @@ returns-then-m-lt1 c =
 
 pub returns : goal.returns
 unfolding is_module
-returns c = 
+returns c =
     let a = c.args in
     simp (
       eq-eqb a.m.first a.due (omega arith),

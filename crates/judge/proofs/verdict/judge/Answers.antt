@@ -1,7 +1,6 @@
 -- `judge` is `judged`: what reading the costs finds decides which branch is due.
 use borrow.Author.Tests.{eq-eqb, ne_eqb}
 use Rattle.judge.specs.Judge.{judged}
-use borrow.Author.Rules.{rules}
 use Rattle.judge.proofs.verdict.judge.Goals as goal
 
 pub returns-then-read-ne0 : goal.returns-then-read-ne0

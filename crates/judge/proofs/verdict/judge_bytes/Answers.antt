@@ -1,7 +1,6 @@
 -- `judge_bytes` is `judged_bytes`: the tests of the length and of the shape decide which branch is due.
 use borrow.Author.Tests.{eq-eqb, ne_eqb, le-leb, lt-leb}
 use Rattle.judge.specs.Judge.{judged_bytes}
-use borrow.Author.Rules.{rules}
 use Rattle.judge.proofs.verdict.judge_bytes.Goals as goal
 
 pub returns-then-plan-lt-PLAN_BYTES : goal.returns-then-plan-lt-PLAN_BYTES
@@ -10,7 +9,7 @@ returns-then-plan-lt-PLAN_BYTES c = simp (lt-leb _ _ c.if-plan-lt-PLAN_BYTES.tru
 
 pub returns-then-shape-ne0 : goal.returns-then-shape-ne0
 unfolding judged_bytes
-returns-then-shape-ne0 c = 
+returns-then-shape-ne0 c =
     simp (
       le-leb _ _ c.if-plan-lt-PLAN_BYTES.false,
       ← c.shape_fault-shape.ensures,
@@ -19,7 +18,7 @@ returns-then-shape-ne0 c =
 
 pub returns : goal.returns
 unfolding judged_bytes
-returns c = 
+returns c =
     simp (
       le-leb _ _ c.if-plan-lt-PLAN_BYTES.false,
       ← c.shape_fault-shape.ensures,

@@ -3,7 +3,6 @@ use mathlib.Core.Path.{◌∙◌}
 use borrow.Author.Tests.{eq-eqb, ne_eqb, le-leb, lt-leb}
 use Rattle.judge.specs.Judge.{judged_plan}
 use Rattle.judge.proofs.Turns.{rule_13, rule_14}
-use borrow.Author.Rules.{rules}
 use Rattle.judge.proofs.verdict.judge_plan.Goals as goal
 
 pub returns-then-copies-ne0 : goal.returns-then-copies-ne0
@@ -12,7 +11,7 @@ returns-then-copies-ne0 c = simp (← (c.rule_fault-copies.ensures ∙ rule_13 _
 
 pub returns-then-memory-ne0 : goal.returns-then-memory-ne0
 unfolding judged_plan
-returns-then-memory-ne0 c = 
+returns-then-memory-ne0 c =
     simp (
       ← (c.rule_fault-copies.ensures ∙ rule_13 _ _),
       eq-eqb _ _ c.if-copies-ne0.false,
@@ -22,7 +21,7 @@ returns-then-memory-ne0 c =
 
 pub returns-then-limit-ne0 : goal.returns-then-limit-ne0
 unfolding judged_plan
-returns-then-limit-ne0 c = 
+returns-then-limit-ne0 c =
     simp (
       ← (c.rule_fault-copies.ensures ∙ rule_13 _ _),
       eq-eqb _ _ c.if-copies-ne0.false,
@@ -34,7 +33,7 @@ returns-then-limit-ne0 c =
 
 pub returns-then-board-cores : goal.returns-then-board-cores
 unfolding judged_plan
-returns-then-board-cores c = 
+returns-then-board-cores c =
     simp (
       ← (c.rule_fault-copies.ensures ∙ rule_13 _ _),
       eq-eqb _ _ c.if-copies-ne0.false,
@@ -48,7 +47,7 @@ returns-then-board-cores c =
 
 pub returns : goal.returns
 unfolding judged_plan
-returns c = 
+returns c =
     simp (
       ← (c.rule_fault-copies.ensures ∙ rule_13 _ _),
       eq-eqb _ _ c.if-copies-ne0.false,

@@ -1,5 +1,4 @@
 -- `keeps_rule` is `rule_test`: the number decides which test is due.
-use borrow.Author.Rules.{rules}
 use borrow.Author.Tests.{eq-eqb, ne_eqb}
 use Rattle.judge.specs.Judge.{rule_test}
 use Rattle.judge.proofs.verdict.keeps_rule.Goals as goal

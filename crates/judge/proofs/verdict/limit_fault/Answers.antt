@@ -1,6 +1,5 @@
 -- `limit_fault` is `first_failing` of `limit_test`: the test that goes by the number 16.
 use mathlib.Core.Path.{◌∙◌}
-use borrow.Author.Rules.{rules}
 use Rattle.judge.proofs.Turns.{rule_16}
 use Rattle.judge.proofs.verdict.limit_fault.Goals as goal
 

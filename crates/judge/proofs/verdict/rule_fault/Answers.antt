@@ -1,12 +1,11 @@
 -- `rule_fault` is `first_failing` of `rule_test`: what is found from the i-th module on is what is found from the first one on.
-use mathlib.Core.Path.{◌≡◌, sym, ◌∙◌}
-use Prim.Native.Nat.{◌+◌, ◌-◌, ◌≤◌}
+use mathlib.Core.Path.{sym, ◌∙◌}
 use native.Mathlib.Nat.{sub-zero}
 use native.Mathlib.Omega.{arith}
 use Rattle.modules.specs.Model.{chain_of}
-use Rattle.layout.specs.Layout.{modules_from, modules_of}
+use Rattle.layout.specs.Layout.{modules_of}
 use Rattle.layout.proofs.Turns.{record_here}
-use Rattle.judge.specs.Judge.{first_failing, rule_test}
+use Rattle.judge.specs.Judge.{rule_test}
 use Rattle.judge.proofs.Turns.{failing_here, failing_next, failing_end}
 use Rattle.judge.proofs.verdict.rule_fault.Goals as goal
 
@@ -27,7 +26,7 @@ pub keeps_rule-requires : goal.keeps_rule-requires
 keeps_rule-requires c = tt
 
 pub returns-then-not-keeps_rule : goal.returns-then-not-keeps_rule
-returns-then-not-keeps_rule c = 
+returns-then-not-keeps_rule c =
     let l = c.loop-i in
     let n = c.module_count-count in
     let a = c.args in
@@ -39,7 +38,7 @@ pub loop-i-smaller : goal.loop-i-smaller
 loop-i-smaller c = omega arith
 
 pub loop-i-preserved : goal.loop-i-preserved
-loop-i-preserved c = 
+loop-i-preserved c =
     let l = c.loop-i in
     let n = c.module_count-count in
     let a = c.args in
@@ -48,7 +47,7 @@ loop-i-preserved c =
     (omega arith, l.invariant.1 ∙ failing_next a.plan.now l.i n.result (omega arith) m f c.keeps_rule.ensures c.if-not-keeps_rule.false-raw)
 
 pub returns : goal.returns
-returns c = 
+returns c =
     let l = c.loop-i in
     let n = c.module_count-count in
     let a = c.args in

@@ -1,13 +1,9 @@
 -- `rule_fault` is `first_failing` of `rule_test`: what is found from the i-th module on is what is found from the first one on.
-use mathlib.Core.Path.{◌≡◌, sym, ◌∙◌}
+use mathlib.Core.Path.{◌≡◌}
 use Prim.Native.Nat.{◌+◌, ◌-◌, ◌≤◌}
-use native.Mathlib.Nat.{sub-zero}
-use native.Mathlib.Omega.{arith}
 use Rattle.modules.specs.Model.{chain_of}
 use Rattle.layout.specs.Layout.{modules_from, modules_of}
-use Rattle.layout.proofs.Turns.{record_here}
 use Rattle.judge.specs.Judge.{first_failing, rule_test}
-use Rattle.judge.proofs.Turns.{failing_here, failing_next, failing_end}
 use Rattle.judge.proofs.verdict.rule_fault.Given as goal
 
 abbrev pub invariant-loop-i : goal.invariant-loop-i

@@ -1,10 +1,8 @@
 -- `shape_fault` is `shape_fault`: what is found from record i on, with its due task, is what is found from the first one on.
-use mathlib.Core.Path.{◌≡◌, refl, sym, ◌∙◌}
-use Prim.Native.Nat.{◌-◌, ◌≤◌}
+use mathlib.Core.Path.{refl, sym, ◌∙◌}
 use native.Mathlib.Omega.{arith}
 use Rattle.layout.specs.Layout.{most_modules}
 use Rattle.layout.proofs.Turns.{record_here}
-use Rattle.judge.specs.Judge.{shape_fault}
 use Rattle.judge.proofs.Turns.{shape_here, shape_last, shape_next, shape_end}
 use Rattle.judge.proofs.verdict.shape_fault.Goals as goal
 
@@ -21,7 +19,7 @@ pub is_module-requires : goal.is_module-requires
 is_module-requires c = tt
 
 pub returns-then-not-is_module : goal.returns-then-not-is_module
-returns-then-not-is_module c = 
+returns-then-not-is_module c =
     let a = c.args in
     let l = c.loop-i in
     let m = c.module_at-m.ensures ∙ record_here a.plan.now l.i (omega arith) in
@@ -31,7 +29,7 @@ pub blank_fault-requires : goal.blank_fault-requires
 blank_fault-requires c = omega arith
 
 pub returns-then-m-k : goal.returns-then-m-k
-returns-then-m-k c = 
+returns-then-m-k c =
     let a = c.args in
     let l = c.loop-i in
     let m = c.module_at-m.ensures ∙ record_here a.plan.now l.i (omega arith) in
@@ -48,7 +46,7 @@ pub loop-i-smaller : goal.loop-i-smaller
 loop-i-smaller c = omega arith
 
 pub loop-i-preserved : goal.loop-i-preserved
-loop-i-preserved c = 
+loop-i-preserved c =
     let a = c.args in
     let l = c.loop-i in
     let m = c.module_at-m.ensures ∙ record_here a.plan.now l.i (omega arith) in
@@ -59,7 +57,7 @@ pub overflow_add-result : goal.overflow_add-result
 overflow_add-result c = omega arith
 
 pub returns : goal.returns
-returns c = 
+returns c =
     let a = c.args in
     let l = c.loop-i in
     sym (l.invariant.1 ∙ shape_end a.plan.now l.i most_modules a.k l.due (omega arith))

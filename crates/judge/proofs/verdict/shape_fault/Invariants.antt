@@ -1,11 +1,8 @@
 -- `shape_fault` is `shape_fault`: what is found from record i on, with its due task, is what is found from the first one on.
-use mathlib.Core.Path.{◌≡◌, refl, sym, ◌∙◌}
+use mathlib.Core.Path.{◌≡◌}
 use Prim.Native.Nat.{◌-◌, ◌≤◌}
-use native.Mathlib.Omega.{arith}
 use Rattle.layout.specs.Layout.{most_modules}
-use Rattle.layout.proofs.Turns.{record_here}
 use Rattle.judge.specs.Judge.{shape_fault}
-use Rattle.judge.proofs.Turns.{shape_here, shape_last, shape_next, shape_end}
 use Rattle.judge.proofs.verdict.shape_fault.Given as goal
 
 abbrev pub invariant-loop-i : goal.invariant-loop-i

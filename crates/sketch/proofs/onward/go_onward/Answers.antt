@@ -26,7 +26,7 @@ pub returns-then-not-rules_met : goal.returns-then-not-rules_met
 returns-then-not-rules_met c = (omega arith, omega arith, λ h. absurd (omega arith), omega arith, omega arith)
 
 pub taken_by-taken-requires : goal.taken_by-taken-requires
-taken_by-taken-requires c = 
+taken_by-taken-requires c =
     let a = c.args in
     let l = c.loop-l.l + 1 in
     let keeps = sym c.rules_met.ensures ∙ c.if-not-rules_met.false in
@@ -36,7 +36,7 @@ taken_by-taken-requires c =
     }
 
 pub returns-then-x-ne0 : goal.returns-then-x-ne0
-returns-then-x-ne0 c = 
+returns-then-x-ne0 c =
     let x = c.with_copies-x in
     let most = c.most_copies-most.result in
     let q = c.args.q in

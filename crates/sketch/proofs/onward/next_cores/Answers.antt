@@ -30,7 +30,7 @@ pub loop-i-smaller : goal.loop-i-smaller
 loop-i-smaller c = omega arith
 
 pub loop-i-preserved : goal.loop-i-preserved
-loop-i-preserved c = 
+loop-i-preserved c =
     let room = c.args.room in
     let kept : c.if-e-slack.best ≤ room = ⊎_elim (λ k. omega (arith, k.2)) (⊎_elim (λ k. omega (arith, k.2)) (λ k. omega (arith, k.1))) c.if-e-slack.branch in
     (kept, omega arith, omega arith)

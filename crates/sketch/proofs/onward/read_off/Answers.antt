@@ -25,6 +25,6 @@ pub loop-t-smaller : goal.loop-t-smaller
 loop-t-smaller c = omega (arith, c.go_onward-x.ensures.2 (omega arith))
 
 pub loop-t-preserved : goal.loop-t-preserved
-loop-t-preserved c = 
+loop-t-preserved c =
     let put = c.put_module in
-    (omega arith, omega arith, omega arith, omega (arith, c.go_onward-x.ensures.2 (omega arith)), put.auto.0 ∙ c.loop-t.invariant.4)
+    (omega arith, omega arith, omega arith, omega (arith, c.go_onward-x.ensures.2 (omega arith)), put.auto.plan ∙ c.loop-t.invariant.4)

@@ -16,7 +16,7 @@ pub overflow_cast-time : goal.overflow_cast-time
 overflow_cast-time c = omega arith
 
 pub overflow_mul-time : goal.overflow_mul-time
-overflow_mul-time c = 
+overflow_mul-time c =
     let l = c.loop-r in
     let a = c.args in
     let m = mul-le-mul {n₁ = a.n} {m₁ = l.r} {n₂ = 23552261120} {m₂ = 32} (omega arith) (omega arith) in
@@ -26,13 +26,13 @@ pub overflow_add-taken : goal.overflow_add-taken
 overflow_add-taken c = omega arith
 
 pub overflow_mul-r : goal.overflow_mul-r
-overflow_mul-r c = 
+overflow_mul-r c =
     let l = c.loop-r in
     let a = c.args in
     omega (arith, mul-le-mul_right {m = l.r} {n = a.most} a.q (omega arith))
 
 pub overflow_sub-room : goal.overflow_sub-room
-overflow_sub-room c = 
+overflow_sub-room c =
     let l = c.loop-r in
     let a = c.args in
     omega (arith, mul-le-mul_right {m = l.r} {n = a.most} a.q (omega arith))

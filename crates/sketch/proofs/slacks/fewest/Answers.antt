@@ -1,7 +1,5 @@
 -- `fewest` stays within all cores: the loop stops at all of them.
-use Prim.Native.Nat.{◌-◌, ◌≤◌}
 use native.Mathlib.Omega.{arith}
-use borrow.Author.Rules.{rules}
 use Rattle.sketch.proofs.slacks.fewest.Goals as goal
 
 pub loop-b-init : goal.loop-b-init

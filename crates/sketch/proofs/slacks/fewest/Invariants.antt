@@ -1,7 +1,5 @@
 -- `fewest` stays within all cores: the loop stops at all of them.
 use Prim.Native.Nat.{◌-◌, ◌≤◌}
-use native.Mathlib.Omega.{arith}
-use borrow.Author.Rules.{rules}
 use Rattle.sketch.proofs.slacks.fewest.Given as goal
 
 abbrev pub invariant-loop-b : goal.invariant-loop-b

@@ -1,7 +1,5 @@
 -- `first_cores` stays within all cores: the loop stops at all of them.
-use Prim.Native.Nat.{◌-◌, ◌≤◌}
 use native.Mathlib.Omega.{arith}
-use borrow.Author.Rules.{rules}
 use Rattle.sketch.proofs.slacks.first_cores.Goals as goal
 
 pub loop-q-init : goal.loop-q-init

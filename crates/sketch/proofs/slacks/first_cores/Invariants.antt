@@ -1,7 +1,5 @@
 -- `first_cores` stays within all cores: the loop stops at all of them.
 use Prim.Native.Nat.{◌-◌, ◌≤◌}
-use native.Mathlib.Omega.{arith}
-use borrow.Author.Rules.{rules}
 use Rattle.sketch.proofs.slacks.first_cores.Given as goal
 
 abbrev pub invariant-loop-q : goal.invariant-loop-q

@@ -1,11 +1,10 @@
 -- `has_slack` tries all numbers of cores: those up to q leave no slack.
 use mathlib.Core.Path.{refl}
 use mathlib.Core.Bool.{true, false}
-use Prim.Native.Nat.{◌+◌, ◌-◌, ◌≤◌}
+use Prim.Native.Nat.{◌+◌}
 use native.Mathlib.Omega.{arith}
-use borrow.Author.Rules.{rules}
 use Rattle.records.proofs.Cases.{true_not_false}
-use Rattle.sketch.proofs.Leaving.{slack_some, Bare, bare_more, bare_slackless}
+use Rattle.sketch.proofs.Leaving.{slack_some, bare_more, bare_slackless}
 use Rattle.sketch.proofs.slacks.has_slack.Goals as goal
 
 pub loop-q-init : goal.loop-q-init
@@ -24,7 +23,7 @@ pub overflow_add-q-in-loop-q : goal.overflow_add-q-in-loop-q
 overflow_add-q-in-loop-q c = omega arith
 
 pub returns-then-word_at-gt0 : goal.returns-then-word_at-gt0
-returns-then-word_at-gt0 c = 
+returns-then-word_at-gt0 c =
     let o = c.loop-q in
     let a = c.args in (
       λ e. slack_some a.work.now a.b (o.q + 1) (omega arith) (omega arith) c.word_at.ensures c.if-word_at-gt0.true,
@@ -35,13 +34,13 @@ pub loop-q-smaller : goal.loop-q-smaller
 loop-q-smaller c = omega arith
 
 pub loop-q-preserved : goal.loop-q-preserved
-loop-q-preserved c = 
+loop-q-preserved c =
     let o = c.loop-q in
     let a = c.args in
     (omega arith, bare_more a.work.now a.b o.q o.invariant.1 c.word_at.ensures c.if-word_at-gt0.false)
 
 pub returns : goal.returns
-returns c = 
+returns c =
     let o = c.loop-q in
     let a = c.args in
     (λ e. true_not_false false e refl, λ e. bare_slackless a.work.now a.b o.q (omega arith) o.invariant.1)

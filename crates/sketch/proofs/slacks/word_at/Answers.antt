@@ -1,7 +1,6 @@
 -- `word_at` is `get_or`, which gives 0 past the end.
 use mathlib.Core.Path.{sym}
 use lib.ListN.{get_or-eq_default}
-use borrow.Author.Rules.{rules}
 use Rattle.sketch.proofs.slacks.word_at.Goals as goal
 
 pub returns : goal.returns

@@ -1,13 +1,9 @@
 -- `copied_at` is `first_failing` of `single_test`: what is found from the i-th module on is what is found from the first one on.
-use mathlib.Core.Path.{◌≡◌, refl, sym, ◌∙◌}
-use Prim.Native.Nat.{◌+◌, ◌-◌, ◌≤◌}
+use mathlib.Core.Path.{refl, sym, ◌∙◌}
 use native.Mathlib.Nat.{sub-zero}
 use native.Mathlib.Omega.{arith}
-use borrow.Author.Rules.{rules}
 use borrow.Author.Tests.{le-leb, lt-leb}
-use Rattle.layout.specs.Layout.{modules_from}
 use Rattle.layout.proofs.Turns.{record_here}
-use Rattle.judge.specs.Judge.{first_failing}
 use Rattle.judge.proofs.Turns.{failing_here, failing_next, failing_end}
 use Rattle.timetable.specs.Timetable.{single_test}
 use Rattle.timetable.proofs.service.copied_at.Goals as goal
@@ -19,7 +15,7 @@ pub overflow_add-i : goal.overflow_add-i
 overflow_add-i c = omega arith
 
 pub returns-then-m-gt1 : goal.returns-then-m-gt1
-returns-then-m-gt1 c = 
+returns-then-m-gt1 c =
     let l = c.loop-i in
     let a = c.args in
     let m = c.module_at-m in
@@ -30,7 +26,7 @@ pub loop-i-smaller : goal.loop-i-smaller
 loop-i-smaller c = omega arith
 
 pub loop-i-preserved : goal.loop-i-preserved
-loop-i-preserved c = 
+loop-i-preserved c =
     let l = c.loop-i in
     let a = c.args in
     let m = c.module_at-m in
@@ -38,7 +34,7 @@ loop-i-preserved c =
     (omega arith, l.invariant.1 ∙ failing_next a.plan.now l.i a.count (omega arith) e single_test refl (simp (le-leb m.result.copies 1 c.if-m-gt1.false)))
 
 pub returns : goal.returns
-returns c = 
+returns c =
     let l = c.loop-i in
     let a = c.args in
     sym (l.invariant.1 ∙ failing_end a.plan.now l.i a.count single_test (omega arith))

@@ -1,14 +1,8 @@
 -- `copied_at` is `first_failing` of `single_test`: what is found from the i-th module on is what is found from the first one on.
-use mathlib.Core.Path.{◌≡◌, refl, sym, ◌∙◌}
+use mathlib.Core.Path.{◌≡◌}
 use Prim.Native.Nat.{◌+◌, ◌-◌, ◌≤◌}
-use native.Mathlib.Nat.{sub-zero}
-use native.Mathlib.Omega.{arith}
-use borrow.Author.Rules.{rules}
-use borrow.Author.Tests.{le-leb, lt-leb}
 use Rattle.layout.specs.Layout.{modules_from}
-use Rattle.layout.proofs.Turns.{record_here}
 use Rattle.judge.specs.Judge.{first_failing}
-use Rattle.judge.proofs.Turns.{failing_here, failing_next, failing_end}
 use Rattle.timetable.specs.Timetable.{single_test}
 use Rattle.timetable.proofs.service.copied_at.Given as goal
 

@@ -1,14 +1,12 @@
 -- `bodies_of` holds the body of each module that it has passed.
 use mathlib.Core.Path.{◌≡◌, refl, ap, ◌∙◌}
-use Prim.Native.Nat.{◌-◌, ◌≤◌}
 use native.Mathlib.Omega.{arith}
-use lib.ListN.{length, length-set}
-use borrow.Author.Rules.{rules}
+use lib.ListN.{length-set}
 use Rattle.modules.specs.declared.Module.{Module}
 use Rattle.modules.specs.Model.{chain_of, body}
 use Rattle.layout.specs.Layout.{most_modules}
 use Rattle.layout.proofs.Turns.{record_here}
-use Rattle.timetable.specs.Loops.{stage_in, most_body, Each}
+use Rattle.timetable.specs.Loops.{most_body}
 use Rattle.timetable.proofs.Loading.{each_none, each_more, each_done}
 use Rattle.timetable.proofs.stream.bodies_of.Goals as goal
 
@@ -31,7 +29,7 @@ pub loop-i-smaller : goal.loop-i-smaller
 loop-i-smaller c = omega arith
 
 pub loop-i-preserved : goal.loop-i-preserved
-loop-i-preserved c = 
+loop-i-preserved c =
     let l = c.loop-i in
     let a = c.args in
     let m = c.module_at-m.ensures ∙ record_here a.plan.now l.i (omega arith) in
@@ -40,7 +38,7 @@ loop-i-preserved c =
     (omega arith, length-set l.bodies l.i v.result ∙ l.invariant.1, each_more l.invariant.2 v.result (omega arith) e (omega arith))
 
 pub returns : goal.returns
-returns c = 
+returns c =
     let l = c.loop-i in
     let a = c.args in
     let e : l.i ≡ a.count = omega arith in

@@ -1,15 +1,10 @@
 -- `bodies_of` holds the body of each module that it has passed.
-use mathlib.Core.Path.{◌≡◌, refl, ap, ◌∙◌}
+use mathlib.Core.Path.{◌≡◌}
 use Prim.Native.Nat.{◌-◌, ◌≤◌}
-use native.Mathlib.Omega.{arith}
-use lib.ListN.{length, length-set}
-use borrow.Author.Rules.{rules}
-use Rattle.modules.specs.declared.Module.{Module}
-use Rattle.modules.specs.Model.{chain_of, body}
+use lib.ListN.{length}
+use Rattle.modules.specs.Model.{chain_of}
 use Rattle.layout.specs.Layout.{most_modules}
-use Rattle.layout.proofs.Turns.{record_here}
 use Rattle.timetable.specs.Loops.{stage_in, most_body, Each}
-use Rattle.timetable.proofs.Loading.{each_none, each_more, each_done}
 use Rattle.timetable.proofs.stream.bodies_of.Given as goal
 
 abbrev pub invariant-loop-i : goal.invariant-loop-i

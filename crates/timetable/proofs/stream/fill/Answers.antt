@@ -3,7 +3,6 @@ use mathlib.Core.Path.{ap, ◌∙◌}
 use mathlib.Core.List.{List, ◌++◌}
 use native.Mathlib.Omega.{arith}
 use lib.ListN.{drop}
-use borrow.Author.Rules.{rules}
 use Rattle.modules.specs.Model.{chain_of}
 use Rattle.timetable.specs.Stages.{Stage}
 use Rattle.timetable.specs.Timetable.{ends}
@@ -11,13 +10,13 @@ use Rattle.timetable.proofs.Loading.{stages_held}
 use Rattle.timetable.proofs.stream.fill.Goals as goal
 
 pub run-requires : goal.run-requires
-run-requires c = 
+run-requires c =
     let b = c.bodies_of-bodies in
     let x = c.sends_of-sends in
     (omega arith, omega arith, omega arith, b.ensures.most, x.ensures.most, omega arith, omega arith)
 
 pub returns : goal.returns
-returns c = 
+returns c =
     let a = c.args in
     let b = c.bodies_of-bodies in
     let x = c.sends_of-sends in

@@ -1,13 +1,10 @@
 -- `pass` is `pass` of the definitions: what is passed and what is left make the whole row, and no time outgrows 64 bits.
 use mathlib.Core.Path.{◌≡◌, refl, ap, ◌∙◌}
-use mathlib.Core.List.{◌++◌}
-use Prim.Native.Nat.{ℕ, ◌+◌, ◌*◌, ◌-◌, ◌≤◌}
+use Prim.Native.Nat.{ℕ, ◌+◌}
 use native.Mathlib.Nat.{sub-zero}
 use native.Mathlib.Omega.{arith}
-use lib.ListN.{get_or, take, drop, length, length-set}
-use borrow.Author.Rules.{rules}
-use Rattle.timetable.specs.Loops.{stages_in, most_body, most_send, most_time}
-use Rattle.timetable.specs.Timetable.{pass, last_of}
+use lib.ListN.{get_or, length-set}
+use Rattle.timetable.specs.Loops.{most_time}
 use Rattle.timetable.proofs.Turns.{row_turn, last_turn, row_done, last_done, ahead, ahead_set, later_most}
 use Rattle.timetable.proofs.stream.pass.Goals as goal
 
@@ -15,7 +12,7 @@ pub bounds-through-0 : goal.bounds-through-0
 bounds-through-0 c = omega arith
 
 pub loop-i-init : goal.loop-i-init
-loop-i-init c = 
+loop-i-init c =
     let p = c.requires in
     (omega arith, refl, omega (arith, p.4 0), refl, simp sub-zero, simp sub-zero)
 
@@ -29,7 +26,7 @@ pub bounds-bodies-i : goal.bounds-bodies-i
 bounds-bodies-i c = omega arith
 
 pub overflow_add-executed : goal.overflow_add-executed
-overflow_add-executed c = 
+overflow_add-executed c =
     let o = c.loop-i in
     let p = c.requires in
     omega (arith, o.invariant.2, p.5 o.i)
@@ -38,7 +35,7 @@ pub bounds-sends-i : goal.bounds-sends-i
 bounds-sends-i c = omega arith
 
 pub overflow_add-sent : goal.overflow_add-sent
-overflow_add-sent c = 
+overflow_add-sent c =
     let o = c.loop-i in
     let p = c.requires in
     let a = c.args in
@@ -54,7 +51,7 @@ pub loop-i-smaller : goal.loop-i-smaller
 loop-i-smaller c = omega arith
 
 pub loop-i-preserved : goal.loop-i-preserved
-loop-i-preserved c = 
+loop-i-preserved c =
     let o = c.loop-i in
     let p = c.requires in
     let a = c.args in
@@ -70,7 +67,7 @@ loop-i-preserved c =
     )
 
 pub returns : goal.returns
-returns c = 
+returns c =
     let o = c.loop-i in
     let a = c.args in
     let e : o.i ≡ a.count = omega arith in (

@@ -1,14 +1,10 @@
 -- `pass` is `pass` of the definitions: what is passed and what is left make the whole row, and no time outgrows 64 bits.
-use mathlib.Core.Path.{◌≡◌, refl, ap, ◌∙◌}
+use mathlib.Core.Path.{◌≡◌}
 use mathlib.Core.List.{◌++◌}
-use Prim.Native.Nat.{ℕ, ◌+◌, ◌*◌, ◌-◌, ◌≤◌}
-use native.Mathlib.Nat.{sub-zero}
-use native.Mathlib.Omega.{arith}
-use lib.ListN.{get_or, take, drop, length, length-set}
-use borrow.Author.Rules.{rules}
+use Prim.Native.Nat.{◌+◌, ◌*◌, ◌-◌, ◌≤◌}
+use lib.ListN.{take, drop, length}
 use Rattle.timetable.specs.Loops.{stages_in, most_body, most_send, most_time}
 use Rattle.timetable.specs.Timetable.{pass, last_of}
-use Rattle.timetable.proofs.Turns.{row_turn, last_turn, row_done, last_done, ahead, ahead_set, later_most}
 use Rattle.timetable.proofs.stream.pass.Given as goal
 
 abbrev pub invariant-loop-i : goal.invariant-loop-i

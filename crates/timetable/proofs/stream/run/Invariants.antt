@@ -1,14 +1,12 @@
 -- `run` writes the ends one by one before what was lent: the times that it keeps are those of the blocks passed.
-use mathlib.Core.Path.{◌≡◌, refl, ◌∙◌}
+use mathlib.Core.Path.{◌≡◌}
 use mathlib.Core.List.{◌++◌}
 use Prim.Native.Nat.{◌+◌, ◌-◌, ◌≤◌}
-use native.Mathlib.Omega.{arith}
-use lib.ListN.{drop, length, length-set}
-use borrow.Author.Rules.{rules}
+use lib.ListN.{drop, length}
 use Rattle.layout.specs.Layout.{most_modules}
 use Rattle.timetable.specs.Loops.{stages_in}
 use Rattle.timetable.specs.Timetable.{ends}
-use Rattle.timetable.proofs.Turns.{Kept, kept_start, kept_next, kept_end, kept_most, stages_length, table_turn}
+use Rattle.timetable.proofs.Turns.{Kept}
 use Rattle.timetable.proofs.stream.run.Given as goal
 
 abbrev pub invariant-loop-i : goal.invariant-loop-i

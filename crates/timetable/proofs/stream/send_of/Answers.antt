@@ -2,7 +2,6 @@
 use mathlib.Core.Path.{◌∙◌}
 use Prim.Native.Nat.{◌+◌}
 use native.Mathlib.Omega.{arith}
-use borrow.Author.Rules.{rules}
 use Rattle.modules.specs.Model.{chain_of}
 use Rattle.layout.proofs.Turns.{record_here}
 use Rattle.timetable.proofs.Loading.{send_next, send_none}
@@ -12,12 +11,12 @@ pub overflow_add-next : goal.overflow_add-next
 overflow_add-next c = omega arith
 
 pub returns-then-next-count : goal.returns-then-next-count
-returns-then-next-count c = 
+returns-then-next-count c =
     let a = c.args in
     send_next (chain_of a.costs.now a.board) a.plan.now a.count a.i (omega arith) (c.module_at-m.ensures ∙ record_here a.plan.now a.i (omega arith))
     (c.module_at-to.ensures ∙ record_here a.plan.now (a.i + 1) (omega arith)) c.transfer.ensures
 
 pub returns : goal.returns
-returns c = 
+returns c =
     let a = c.args in
     send_none (chain_of a.costs.now a.board) a.plan.now a.count a.i (omega arith)

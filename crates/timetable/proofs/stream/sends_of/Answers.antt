@@ -1,11 +1,9 @@
 -- `sends_of` holds the transfer of each module that it has passed.
 use mathlib.Core.Path.{◌≡◌, refl, ◌∙◌}
-use Prim.Native.Nat.{◌-◌, ◌≤◌}
 use native.Mathlib.Omega.{arith}
-use lib.ListN.{length, length-set}
-use Rattle.modules.specs.Model.{chain_of}
+use lib.ListN.{length-set}
 use Rattle.layout.specs.Layout.{most_modules}
-use Rattle.timetable.specs.Loops.{stage_in, most_send, Each}
+use Rattle.timetable.specs.Loops.{most_send}
 use Rattle.timetable.proofs.Loading.{each_none, each_more, each_done}
 use Rattle.timetable.proofs.stream.sends_of.Goals as goal
 
@@ -34,13 +32,13 @@ pub loop-i-smaller : goal.loop-i-smaller
 loop-i-smaller c = omega arith
 
 pub loop-i-preserved : goal.loop-i-preserved
-loop-i-preserved c = 
+loop-i-preserved c =
     let l = c.loop-i in
     let v = c.send_of-send in
     (omega arith, length-set l.sends l.i v.result ∙ l.invariant.1, each_more l.invariant.2 v.result (omega arith) v.ensures (omega arith))
 
 pub returns : goal.returns
-returns c = 
+returns c =
     let l = c.loop-i in
     let a = c.args in
     let e : l.i ≡ a.count = omega arith in

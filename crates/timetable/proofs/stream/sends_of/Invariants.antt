@@ -1,12 +1,10 @@
 -- `sends_of` holds the transfer of each module that it has passed.
-use mathlib.Core.Path.{◌≡◌, refl, ◌∙◌}
+use mathlib.Core.Path.{◌≡◌}
 use Prim.Native.Nat.{◌-◌, ◌≤◌}
-use native.Mathlib.Omega.{arith}
-use lib.ListN.{length, length-set}
+use lib.ListN.{length}
 use Rattle.modules.specs.Model.{chain_of}
 use Rattle.layout.specs.Layout.{most_modules}
 use Rattle.timetable.specs.Loops.{stage_in, most_send, Each}
-use Rattle.timetable.proofs.Loading.{each_none, each_more, each_done}
 use Rattle.timetable.proofs.stream.sends_of.Given as goal
 
 abbrev pub invariant-loop-i : goal.invariant-loop-i
