@@ -8,6 +8,7 @@ use borrow.Author.Rules.{rules}
 use Rattle.console.proofs.Counted.{counts}
 use Rattle.plan.proofs.Deciding.{text_longer, text_held}
 use Rattle.plan.proofs.text_of.Goals as goal
+use Rattle.plan.proofs.text_of.Goals.{then-file-n, else-file-n}
 
 pub returns-then-longer : goal.returns-then-longer
 returns-then-longer c = 
@@ -18,12 +19,12 @@ pub slice_bounds-answer-end : goal.slice_bounds-answer-end
 slice_bounds-answer-end c = 
     let n = c.if-file-n.n in
     let file = c.args.file.now in
-    let within : n ≤ length file = ⊎_elim (λ w. omega arith) (λ w. omega arith) c.if-file-n.branch in
+    let within : n ≤ length file = elim c.if-file-n.branch [ then-file-n w ↦ omega arith | else-file-n w ↦ omega arith ] in
     (counts n file within).1
 
 pub returns : goal.returns
 returns c = 
     let a = c.args in
     let file = a.file.now in
-    let cut : c.if-file-n.n ≡ min a.input.length (length file) = ⊎_elim (λ w. omega arith) (λ w. omega arith) c.if-file-n.branch in
+    let cut : c.if-file-n.n ≡ min a.input.length (length file) = elim c.if-file-n.branch [ then-file-n w ↦ omega arith | else-file-n w ↦ omega arith ] in
     (c.answer.ensures.0 ∙ sym (text_held a.input file c.if-longer.false cut), c.answer.ensures.1)

@@ -1,4 +1,4 @@
--- `module_lines` is `module_lines`: after each turn one line more stands at the end.
+-- `module_lines` is the `module_lines` of specs: after each turn one line more stands at the end.
 use mathlib.Core.Path.{◌≡◌}
 use Prim.Native.Nat.{◌-◌, ◌*◌, ◌≤◌}
 use Rattle.modules.specs.Model.{chain_of}

@@ -1,4 +1,4 @@
--- `value_at` is `value_at`, whichever way the bytes are read.
+-- `value_at` is the `value_at` of specs, whichever way the bytes are read.
 use Rattle.fields.specs.Fields.{value_at}
 use Rattle.fields.proofs.bytes.value_at.Goals as goal
 

@@ -1,4 +1,4 @@
--- `block_time` is `block_time`: what is added up and what is left of the time are the whole, twelve modules at most.
+-- `block_time` is the `block_time` of specs: what is added up and what is left of the time are the whole, twelve modules at most.
 use mathlib.Core.Path.{◌∙◌}
 use native.Mathlib.Nat.{sub-zero}
 use native.Mathlib.Omega.{arith}

@@ -1,4 +1,4 @@
--- `cores_before` is `cores_before`: the record before the i-th is the one at i - 1.
+-- `cores_before` is the `cores_before` of specs: the record before the i-th is the one at i - 1.
 use mathlib.Core.Path.{sym}
 use Prim.Native.Nat.{◌-◌}
 use native.Mathlib.Omega.{arith}

@@ -1,4 +1,4 @@
--- `cores_of` is `cores_of`: what is added up and what is left of the sum are the whole.
+-- `cores_of` is the `cores_of` of specs: what is added up and what is left of the sum are the whole.
 use mathlib.Core.Path.{◌∙◌}
 use native.Mathlib.Nat.{sub-zero}
 use native.Mathlib.Omega.{arith}

@@ -1,4 +1,4 @@
--- `cost_count` is `cost_count`.
+-- `cost_count` is the `cost_count` of specs.
 use native.Mathlib.Omega.{arith}
 use borrow.Author.Tests.{eq-eqb, ne_eqb}
 use Rattle.records.proofs.Bounds.{product_of_bytes}

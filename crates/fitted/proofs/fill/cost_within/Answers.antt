@@ -1,4 +1,4 @@
--- `cost_within` is `cost_within`. The loop's invariant: the test of the records from j on is the test of all.
+-- `cost_within` is the `cost_within` of specs. The loop's invariant: the test of the records from j on is the test of all.
 use mathlib.Core.Path.{refl, sym, ◌∙◌}
 use native.Mathlib.Omega.{arith}
 use Rattle.fitted.specs.Fill.{cost_keys, value_by}

@@ -1,4 +1,4 @@
--- `laws_fault` is `laws_fault`.
+-- `laws_fault` is the `laws_fault` of specs.
 use Rattle.fitted.specs.Fill.{laws_fault}
 use Rattle.fitted.proofs.fill.laws_fault.Goals as goal
 

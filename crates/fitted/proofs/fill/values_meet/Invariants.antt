@@ -1,4 +1,4 @@
--- `values_meet` is `values_meet`. The loop's invariant: the test of the laws from record i on is the test of all.
+-- `values_meet` is the `values_meet` of specs. The loop's invariant: the test of the laws from record i on is the test of all.
 use mathlib.Core.Path.{◌≡◌}
 use Prim.Native.Nat.{◌-◌, ◌≤◌}
 use Rattle.fitted.specs.Fill.{law_count, values_meet}

@@ -1,4 +1,4 @@
--- `first_fault` is `first_fault` of the first part's keys. The loop's invariant: the walk from record n on finds what the whole walk
+-- `first_fault` is the `first_fault` of specs of the first part's keys. The loop's invariant: the walk from record n on finds what the whole walk
 -- finds.
 use mathlib.Core.Path.{◌≡◌}
 use Prim.Native.Nat.{◌+◌, ◌-◌, ◌≤◌}

@@ -1,4 +1,4 @@
--- `tasks_fault` is `tasks_fault`: the length decides between 4 and the walk.
+-- `tasks_fault` is the `tasks_fault` of specs: the length decides between 4 and the walk.
 use Prim.Native.Nat.{◌+◌, ◌*◌}
 use native.Mathlib.Omega.{arith}
 use lib.ListN.{length}

@@ -1,4 +1,4 @@
--- `law_key` is `law_key`: its tests are the definition's.
+-- `law_key` is the `law_key` of specs: its tests are the definition's.
 use borrow.Author.Tests.{lt-ltb, le-ltb}
 use Rattle.fitted.specs.Fill.{law_key}
 use Rattle.fitted.proofs.order.law_key.Goals as goal

@@ -1,4 +1,4 @@
--- `laws_meet` is `laws_meet`. The loop's invariant: the test of the records from n on is the test of all; the key by its place is the
+-- `laws_meet` is the `laws_meet` of specs. The loop's invariant: the test of the records from n on is the test of all; the key by its place is the
 -- list's.
 use mathlib.Core.Path.{◌≡◌}
 use Prim.Native.Nat.{◌-◌, ◌≤◌}

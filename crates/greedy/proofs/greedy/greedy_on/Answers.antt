@@ -1,4 +1,4 @@
--- `greedy_on` is `greedy_on`, with its bytes: at each `return` the tests that led there decide which branch is due.
+-- `greedy_on` is the `greedy_on` of specs, with its bytes: at each `return` the tests that led there decide which branch is due.
 use mathlib.Core.Path.{refl, sym, ap, ◌∙◌}
 use native.Mathlib.Omega.{arith}
 use Rattle.modules.specs.Model.{chain_of}

@@ -1,4 +1,4 @@
--- `may_take` is `may_take`: the count decides whether there is such a module, and its limit the rest.
+-- `may_take` is the `may_take` of specs: the count decides whether there is such a module, and its limit the rest.
 use mathlib.Core.Path.{◌≡◌, sym, ◌∙◌}
 use mathlib.Core.List.{List}
 use Prim.Native.Nat.{ℕ, ◌<◌}

@@ -1,4 +1,4 @@
--- `blank_fault` is `blank_fault`: what is found from record i on is what is found from the first one on.
+-- `blank_fault` is the `blank_fault` of specs: what is found from record i on is what is found from the first one on.
 use mathlib.Core.Path.{refl, sym, ◌∙◌}
 use native.Mathlib.Omega.{arith}
 use Rattle.layout.specs.Layout.{most_modules}

@@ -1,4 +1,4 @@
--- `is_blank` is `is_blank`: at each `return` the tests that led there decide the conjunction.
+-- `is_blank` is the `is_blank` of specs: at each `return` the tests that led there decide the conjunction.
 use native.Mathlib.Omega.{arith}
 use borrow.Author.Tests.{eq-eqb, ne_eqb}
 use Rattle.judge.specs.Judge.{is_blank}

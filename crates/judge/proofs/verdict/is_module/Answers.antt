@@ -1,4 +1,4 @@
--- `is_module` is `is_module`: at each `return` the tests that led there decide the conjunction.
+-- `is_module` is the `is_module` of specs: at each `return` the tests that led there decide the conjunction.
 use native.Mathlib.Omega.{arith}
 use borrow.Author.Tests.{eq-eqb, ne_eqb, le-leb, lt-leb}
 use Rattle.judge.specs.Judge.{is_module}

@@ -1,4 +1,4 @@
--- `shape_fault` is `shape_fault`: what is found from record i on, with its due task, is what is found from the first one on.
+-- `shape_fault` is the `shape_fault` of specs: what is found from record i on, with its due task, is what is found from the first one on.
 use mathlib.Core.Path.{◌≡◌}
 use Prim.Native.Nat.{◌-◌, ◌≤◌}
 use Rattle.layout.specs.Layout.{most_modules}

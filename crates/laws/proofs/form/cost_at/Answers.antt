@@ -1,4 +1,4 @@
--- `cost_at` is `cost_at`, field by field.
+-- `cost_at` is the `cost_at` of specs, field by field.
 use mathlib.Core.Path.{refl}
 use Rattle.laws.specs.Form.{cost_at}
 use Rattle.laws.proofs.form.cost_at.Goals as goal

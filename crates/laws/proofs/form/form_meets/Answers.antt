@@ -1,4 +1,4 @@
--- `form_meets` is `form_meets`.
+-- `form_meets` is the `form_meets` of specs.
 use borrow.Author.Tests.{eq-eqb, ne_eqb}
 use Rattle.laws.specs.Form.{form_meets}
 use Rattle.laws.proofs.form.form_meets.Goals as goal

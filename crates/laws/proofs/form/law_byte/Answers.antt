@@ -1,4 +1,4 @@
--- `law_byte` is `law_byte`.
+-- `law_byte` is the `law_byte` of specs.
 use Rattle.laws.proofs.form.law_byte.Goals as goal
 
 pub returns : goal.returns

@@ -1,4 +1,4 @@
--- `law_meets` is `law_meets`: at each `return` the tests that led there decide the conjunction.
+-- `law_meets` is the `law_meets` of specs: at each `return` the tests that led there decide the conjunction.
 use borrow.Author.Tests.{eq-eqb, ne_eqb}
 use Rattle.laws.specs.Form.{law_meets}
 use Rattle.laws.proofs.form.law_meets.Goals as goal

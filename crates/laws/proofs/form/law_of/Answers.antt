@@ -1,4 +1,4 @@
--- `law_of` is `law_of`: the form decides, and each coefficient is read where it stands.
+-- `law_of` is the `law_of` of specs: the form decides, and each coefficient is read where it stands.
 use borrow.Author.Tests.{eq-eqb, ne_eqb}
 use Rattle.laws.specs.Form.{law_of}
 use Rattle.laws.proofs.form.law_of.Goals as goal

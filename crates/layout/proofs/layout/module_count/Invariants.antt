@@ -1,4 +1,4 @@
--- `module_count` is `module_count`: what the search from record i on finds is what the whole search finds.
+-- `module_count` is the `module_count` of specs: what the search from record i on finds is what the whole search finds.
 use mathlib.Core.Path.{◌≡◌}
 use Prim.Native.Nat.{◌-◌, ◌≤◌}
 use Rattle.layout.specs.Layout.{most_modules, count_from, module_count}

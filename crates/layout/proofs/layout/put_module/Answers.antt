@@ -1,4 +1,4 @@
--- `put_module` is `put_module`: the tests are the definition's, and its four stores are a run of stores.
+-- `put_module` is the `put_module` of specs: the tests are the definition's, and its four stores are a run of stores.
 use mathlib.Core.Path.{◌≡◌}
 use mathlib.Core.Bool.{and-false}
 use Prim.Native.Nat.{suc, ◌+◌, ◌*◌}

@@ -1,4 +1,4 @@
--- `has_next` is `has_next`: each branch says what the first of the two tests is.
+-- `has_next` is the `has_next` of specs: each branch says what the first of the two tests is.
 use native.Mathlib.Omega.{arith}
 use borrow.Author.Tests.{le-leb, lt-leb}
 use Rattle.lookups.specs.Lookups.{has_next}

@@ -1,4 +1,4 @@
--- `pair_place` is `pair_place`: no sum overflows, since each is a part of a place (`place_bound`).
+-- `pair_place` is the `pair_place` of specs: no sum overflows, since each is a part of a place (`place_bound`).
 use mathlib.Core.Path.{refl}
 use native.Mathlib.Omega.{arith}
 use Rattle.records.proofs.Bounds.{product_of_bytes, place_bound}

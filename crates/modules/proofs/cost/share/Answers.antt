@@ -1,4 +1,4 @@
--- `share` is `share`: the need that is looked up, divided and rounded up.
+-- `share` is the `share` of specs: the need that is looked up, divided and rounded up.
 use mathlib.Core.Path.{◌∙◌, ap}
 use Prim.Native.Nat.{ℕ}
 use native.Mathlib.Omega.{arith}

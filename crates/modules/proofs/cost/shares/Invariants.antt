@@ -1,4 +1,4 @@
--- `shares` is `shares`: what is added up and what is left of the sum are the whole.
+-- `shares` is the `shares` of specs: what is added up and what is left of the sum are the whole.
 use mathlib.Core.Path.{◌≡◌}
 use Prim.Native.Nat.{◌+◌, ◌-◌, ◌*◌, ◌≤◌}
 use Rattle.modules.specs.Model.{chain_of, run, nothing}

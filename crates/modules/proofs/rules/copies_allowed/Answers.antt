@@ -1,4 +1,4 @@
--- `copies_allowed` is `copies_allowed`: the test of the copies decides which side of the disjunction is due.
+-- `copies_allowed` is the `copies_allowed` of specs: the test of the copies decides which side of the disjunction is due.
 use borrow.Author.Tests.{le-leb, lt-leb}
 use Rattle.modules.specs.Rules.{copies_allowed}
 use Rattle.modules.proofs.rules.copies_allowed.Goals as goal

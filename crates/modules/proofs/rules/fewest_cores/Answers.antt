@@ -1,4 +1,4 @@
--- `fewest_cores` is `fewest_cores`: what the search from p on finds is what the whole search finds.
+-- `fewest_cores` is the `fewest_cores` of specs: what the search from p on finds is what the whole search finds.
 use mathlib.Core.Path.{sym, ◌∙◌}
 use native.Mathlib.Nat.{sub-zero}
 use native.Mathlib.Omega.{arith}

@@ -1,4 +1,4 @@
--- `memory_fits` is `memory_fits`: on no cores nothing fits, else the sum of the shares decides.
+-- `memory_fits` is the `memory_fits` of specs: on no cores nothing fits, else the sum of the shares decides.
 use native.Mathlib.Omega.{arith}
 use borrow.Author.Tests.{le-leb, lt-leb}
 use Rattle.modules.specs.Rules.{memory_fits}

@@ -1,4 +1,4 @@
--- `still_kept` is `still_kept`: the limit decides whether the sum is asked.
+-- `still_kept` is the `still_kept` of specs: the limit decides whether the sum is asked.
 use Rattle.modules.specs.Rules.{still_kept}
 use Rattle.modules.proofs.rules.still_kept.Goals as goal
 

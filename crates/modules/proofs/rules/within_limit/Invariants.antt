@@ -1,4 +1,4 @@
--- `within_limit` is `within_limit`: while each task allows the cores, what is left decides as the whole does.
+-- `within_limit` is the `within_limit` of specs: while each task allows the cores, what is left decides as the whole does.
 use mathlib.Core.Path.{◌≡◌}
 use Prim.Native.Nat.{◌-◌, ◌≤◌}
 use Rattle.modules.specs.Model.{chain_of}

@@ -1,12 +1,8 @@
 -- `any_at` is what any copies leave: that of one, and the greatest so far over two copies and more, while they leave a rest that can be sent
 -- to.
-use Prim.Native.Nat.{ℕ, ◌+◌, ◌*◌, ◌-◌, ◌≤◌}
+use Prim.Native.Nat.{ℕ, ◌*◌, ◌≤◌}
 use native.Mathlib.Omega.{arith}
 use native.Mathlib.Nat.{le_refl, mul-le-mul}
-use mathlib.Core.Path.{◌≡◌}
-use borrow.Author.Rules.{rules}
-use Rattle.slack.specs.Greatest.{larger, greatest}
-use Rattle.slack.specs.Fill.{left_by, several}
 use Rattle.slack.specs.Problem.{top_threshold}
 use Rattle.slack.proofs.Offers.{best_start, best_more}
 use Rattle.offers.specs.Words.{time_at, row_of}
@@ -24,7 +20,7 @@ pub overflow_add-used : goal.overflow_add-used
 overflow_add-used c = omega arith
 
 pub loop-used-init : goal.loop-used-init
-loop-used-init c = 
+loop-used-init c =
     let a = c.args in
     (omega arith, omega arith, omega arith, omega arith, best_start (time_at a.n) a.extra (row_of a.row.now) 0 a.q a.b a.one (c.requires.5 a.extra))
 
@@ -44,7 +40,7 @@ pub overflow_add-sent : goal.overflow_add-sent
 overflow_add-sent c = omega arith
 
 pub beyond-v-requires : goal.beyond-v-requires
-beyond-v-requires c = 
+beyond-v-requires c =
     let o = c.loop-used in
     let a = c.args in
     let few = low-copies o.r a.q a.b (omega arith) (omega arith) (omega arith) in
@@ -60,7 +56,7 @@ pub loop-used-smaller : goal.loop-used-smaller
 loop-used-smaller c = omega arith
 
 pub loop-used-preserved : goal.loop-used-preserved
-loop-used-preserved c = 
+loop-used-preserved c =
     let o = c.loop-used in
     let a = c.args in
     let i = o.invariant in
@@ -74,7 +70,7 @@ loop-used-preserved c =
     )
 
 pub returns : goal.returns
-returns c = 
+returns c =
     let o = c.loop-used in
     let a = c.args in
     λ bare. best_stop a.n a.extra (row_of a.row.now) 0 a.q a.b a.low c.requires.0 c.requires.1 c.requires.3 bare o.r o.used o.m o.invariant.2 (omega arith) o.invariant.4

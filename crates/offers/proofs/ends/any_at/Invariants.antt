@@ -1,16 +1,10 @@
 -- `any_at` is what any copies leave: that of one, and the greatest so far over two copies and more, while they leave a rest that can be sent
 -- to.
-use Prim.Native.Nat.{ℕ, ◌+◌, ◌*◌, ◌-◌, ◌≤◌}
-use native.Mathlib.Omega.{arith}
-use native.Mathlib.Nat.{le_refl, mul-le-mul}
+use Prim.Native.Nat.{◌+◌, ◌*◌, ◌-◌, ◌≤◌}
 use mathlib.Core.Path.{◌≡◌}
-use borrow.Author.Rules.{rules}
 use Rattle.slack.specs.Greatest.{larger, greatest}
 use Rattle.slack.specs.Fill.{left_by, several}
-use Rattle.slack.specs.Problem.{top_threshold}
-use Rattle.slack.proofs.Offers.{best_start, best_more}
 use Rattle.offers.specs.Words.{time_at, row_of}
-use Rattle.offers.proofs.Offering.{best_stop}
 use Rattle.offers.proofs.ends.any_at.Given as goal
 
 abbrev pub invariant-loop-used : goal.invariant-loop-used

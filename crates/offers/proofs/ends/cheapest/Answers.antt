@@ -1,21 +1,19 @@
 -- `cheapest` keeps a row whose least entry up to c is the cheapest transfer so far to a rest of at most c cores: each next module is
 -- entered at the fewest cores of a rest that it can lead, and one that leads none need not be. `settle` then takes the least up to each entry.
-use Prim.Native.Nat.{ℕ, ◌+◌, ◌-◌, ◌≤◌, ◌<◌}
+use Prim.Native.Nat.{ℕ, ◌<◌}
 use native.Mathlib.Nat.{le_refl}
 use native.Mathlib.Omega.{arith}
 use mathlib.Core.Path.{◌≡◌, sym, ◌∙◌}
-use lib.ListN.{length, length-set}
+use lib.ListN.{length-set}
 use lib.Seq.{get_or-set_other}
 use mathlib.Core.Logic.{⊎_elim}
-use borrow.Author.Rules.{rules}
 use Rattle.slack.proofs.Greatest.{larger_ge, larger_is}
 use Rattle.modules.specs.Model.{chain_of}
-use Rattle.offers.specs.Words.{NoRest, NoneBelow}
-use Rattle.offers.proofs.Rows.{unsent_before, blank_length, blank_entry, blank_cheapest, Entered, entered_none, entered_same, entered_more, entered_all}
+use Rattle.offers.proofs.Rows.{unsent_before, blank_length, blank_entry, blank_cheapest, entered_none, entered_same, entered_more, entered_all}
 use Rattle.offers.proofs.ends.cheapest.Goals as goal
 
 pub returns-then-l-board : goal.returns-then-l-board
-returns-then-l-board c = 
+returns-then-l-board c =
     let a = c.args in
     λ rest n filled. blank_cheapest (chain_of a.costs.now a.board) n a.row.now a.l a.q c.if-l-board.true (omega arith) c.requires.5
 
@@ -23,7 +21,7 @@ pub overflow_mul-base : goal.overflow_mul-base
 overflow_mul-base c = omega arith
 
 pub loop-i-init : goal.loop-i-init
-loop-i-init c = 
+loop-i-init c =
     let a = c.args in
     let blank = c.requires.5 in
     let before : a.l < a.board.tasks = omega arith in (
@@ -56,7 +54,7 @@ pub loop-i-smaller-then-work-at-eq0 : goal.loop-i-smaller-then-work-at-eq0
 loop-i-smaller-then-work-at-eq0 c = omega arith
 
 pub loop-i-preserved-then-work-at-eq0 : goal.loop-i-preserved-then-work-at-eq0
-loop-i-preserved-then-work-at-eq0 c = 
+loop-i-preserved-then-work-at-eq0 c =
     let o = c.loop-i in
     let a = c.args in (
       o.invariant.0,
@@ -67,7 +65,7 @@ loop-i-preserved-then-work-at-eq0 c =
     )
 
 pub first_served-c-requires : goal.first_served-c-requires
-first_served-c-requires c = 
+first_served-c-requires c =
     let a = c.args in
     (omega arith, ⊎_elim (λ (d : ◌≡◌ {A = ℕ} _ _). omega (arith, d, c.later-from.ensures)) (λ (d : ◌≡◌ {A = ℕ} _ _). omega (arith, d, c.later-from.ensures)) (larger_is c.loop-i.i a.least))
 
@@ -90,7 +88,7 @@ pub loop-i-smaller : goal.loop-i-smaller
 loop-i-smaller c = omega arith
 
 pub loop-i-preserved : goal.loop-i-preserved
-loop-i-preserved c = 
+loop-i-preserved c =
     let o = c.loop-i in
     let a = c.args in
     let first = c.first_served-c in
@@ -107,12 +105,12 @@ pub settle-requires : goal.settle-requires
 settle-requires c = omega arith
 
 pub shape_of-row : goal.shape_of-row
-shape_of-row c = 
-    c.settle.auto.0 ∙ c.loop-i.invariant.0
+shape_of-row c =
+    c.settle.auto.row ∙ c.loop-i.invariant.0
     ∙ sym (blank_length _ _ c.requires.5)
 
 pub returns : goal.returns
-returns c = 
+returns c =
     let o = c.loop-i in
     let a = c.args in
     λ rest n filled b low. c.settle.ensures o.invariant.4 b (omega arith)

@@ -1,17 +1,11 @@
 -- `cheapest` keeps a row whose least entry up to c is the cheapest transfer so far to a rest of at most c cores: each next module is
 -- entered at the fewest cores of a rest that it can lead, and one that leads none need not be. `settle` then takes the least up to each entry.
-use Prim.Native.Nat.{ℕ, ◌+◌, ◌-◌, ◌≤◌, ◌<◌}
-use native.Mathlib.Nat.{le_refl}
-use native.Mathlib.Omega.{arith}
-use mathlib.Core.Path.{◌≡◌, sym, ◌∙◌}
-use lib.ListN.{length, length-set}
-use lib.Seq.{get_or-set_other}
-use mathlib.Core.Logic.{⊎_elim}
-use borrow.Author.Rules.{rules}
-use Rattle.slack.proofs.Greatest.{larger_ge, larger_is}
+use Prim.Native.Nat.{◌+◌, ◌-◌, ◌≤◌}
+use mathlib.Core.Path.{◌≡◌}
+use lib.ListN.{length}
 use Rattle.modules.specs.Model.{chain_of}
 use Rattle.offers.specs.Words.{NoRest, NoneBelow}
-use Rattle.offers.proofs.Rows.{unsent_before, blank_length, blank_entry, blank_cheapest, Entered, entered_none, entered_same, entered_more, entered_all}
+use Rattle.offers.proofs.Rows.{Entered}
 use Rattle.offers.proofs.ends.cheapest.Given as goal
 
 abbrev pub invariant-loop-i : goal.invariant-loop-i

@@ -2,7 +2,6 @@
 use native.Mathlib.Omega.{arith}
 use mathlib.Core.Path.{refl}
 use mathlib.Core.Logic.{⊎_elim}
-use borrow.Author.Rules.{rules}
 use Rattle.offers.proofs.ends.first_above.Goals as goal
 
 pub returns-then-row-end : goal.returns-then-row-end

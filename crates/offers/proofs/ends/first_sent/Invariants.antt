@@ -1,9 +1,5 @@
 -- `first_sent` passes over the entries that are no transfer.
 use Prim.Native.Nat.{◌+◌, ◌-◌, ◌≤◌}
-use native.Mathlib.Omega.{arith}
-use mathlib.Core.Path.{◌≡◌}
-use mathlib.Core.Logic.{⊎_elim}
-use Rattle.records.proofs.Cases.{lt_or_le}
 use Rattle.offers.specs.Words.{NoneBelow}
 use Rattle.offers.proofs.ends.first_sent.Given as goal
 

@@ -1,10 +1,8 @@
 -- `first_served` passes over the slacks that are at most e.
-use Prim.Native.Nat.{ℕ, ◌+◌, ◌-◌, ◌≤◌, ◌<◌}
 use native.Mathlib.Nat.{le_refl}
 use native.Mathlib.Omega.{arith}
 use mathlib.Core.Path.{◌≡◌}
 use mathlib.Core.Logic.{⊎_elim}
-use lib.ListN.{get_or}
 use Rattle.records.proofs.Cases.{lt_or_le}
 use Rattle.offers.proofs.ends.first_served.Goals as goal
 
@@ -21,7 +19,7 @@ pub bounds-work-at : goal.bounds-work-at
 bounds-work-at c = omega arith
 
 pub returns-then-e-work : goal.returns-then-e-work
-returns-then-e-work c = 
+returns-then-e-work c =
     let i = c.loop-c.invariant in
     record { low = i.0; high = i.1; serves = λ h. omega arith; none_before = i.2 }
 
@@ -32,11 +30,11 @@ pub loop-c-smaller : goal.loop-c-smaller
 loop-c-smaller c = omega arith
 
 pub loop-c-preserved : goal.loop-c-preserved
-loop-c-preserved c = 
+loop-c-preserved c =
     let o = c.loop-c in
     (omega arith, omega arith, λ j h l. ⊎_elim (λ d. o.invariant.2 j h d) (λ d. let e : j ≡ o.c = omega arith in rw e (omega arith)) (lt_or_le j o.c))
 
 pub returns : goal.returns
-returns c = 
+returns c =
     let i = c.loop-c.invariant in
     record { low = i.0; high = i.1; serves = λ h. absurd (omega arith); none_before = i.2 }

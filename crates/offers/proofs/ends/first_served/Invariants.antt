@@ -1,11 +1,6 @@
 -- `first_served` passes over the slacks that are at most e.
 use Prim.Native.Nat.{ℕ, ◌+◌, ◌-◌, ◌≤◌, ◌<◌}
-use native.Mathlib.Nat.{le_refl}
-use native.Mathlib.Omega.{arith}
-use mathlib.Core.Path.{◌≡◌}
-use mathlib.Core.Logic.{⊎_elim}
 use lib.ListN.{get_or}
-use Rattle.records.proofs.Cases.{lt_or_le}
 use Rattle.offers.proofs.ends.first_served.Given as goal
 
 abbrev pub invariant-loop-c : goal.invariant-loop-c

@@ -1,4 +1,4 @@
--- `larger` is `larger`: its two cases.
+-- `larger` is the `larger` of specs: its two cases.
 use mathlib.Core.Path.{sym}
 use Rattle.slack.proofs.Greatest.{larger_low, larger_high}
 use Rattle.offers.proofs.ends.larger.Goals as goal

@@ -1,21 +1,14 @@
 -- `least_rest` asks the rests that start with ever more cores: of those asked none with fewer than `least` cores has a slack, and a rest that
 -- starts with as many has no fewer.
-use Prim.Native.Nat.{ℕ, ◌+◌, ◌-◌, ◌*◌, ◌≤◌, ◌<◌}
+use Prim.Native.Nat.{ℕ, ◌+◌, ◌-◌, ◌*◌, ◌<◌}
 use native.Mathlib.Omega.{arith}
 use mathlib.Core.Path.{◌≡◌, refl}
 use mathlib.Core.Logic.{⊎_elim}
 use mathlib.Core.List.{List}
-use lib.ListN.{get_or}
-use borrow.Author.Rules.{rules}
-use borrow.Author.Tests.{not-true, not-false}
 use Rattle.records.proofs.Cases.{lt_or_le}
-use Rattle.sketch.specs.Slacks.{slack_at}
 use Rattle.offers.specs.Words.{FirstServed}
 use Rattle.offers.proofs.ends.least_rest.Goals as goal
-
--- no rest that starts with fewer than q cores has a slack with fewer than `least`
-abbrev Asked : (w : List ℕ) (l least q : ℕ) → Type 0
-Asked w l least q = (p b : ℕ) → 1 ≤ p → p < q → p ≤ b → b < least → get_or w (slack_at l p b) 0 ≡ 0
+use Rattle.offers.proofs.ends.least_rest.Invariants.{Asked}
 
 asked-more : (w : List ℕ) (l least q r : ℕ) → q < least → FirstServed w (l * 1089 + q * 33) q (least - 1) 0 r → Asked w l least q → Asked w l r (q + 1)
 asked-more w l least q r h first asked p b some low u v = ⊎_elim
@@ -30,7 +23,7 @@ pub returns-then-board-l : goal.returns-then-board-l
 returns-then-board-l c = record { found = λ room h. record { high = omega arith; last = λ e. refl; bare = λ q b h g u. absurd (omega arith) }; out = λ h. refl }
 
 pub overflow_mul-base : goal.overflow_mul-base
-overflow_mul-base c = 
+overflow_mul-base c =
     let room = c.has_room.ensures.0 (c.if-not-has_room.false) in
     omega (arith, room.sized.tasks_most)
 
@@ -44,12 +37,12 @@ pub loop-q-init : goal.loop-q-init
 loop-q-init c = (omega arith, omega arith, omega arith, λ p b h g. absurd (omega arith))
 
 pub overflow_mul-q : goal.overflow_mul-q
-overflow_mul-q c = 
+overflow_mul-q c =
     let room = c.has_room.ensures.0 (c.if-not-has_room.false) in
     omega (arith, room.sized.cores_most)
 
 pub overflow_add-base : goal.overflow_add-base
-overflow_add-base c = 
+overflow_add-base c =
     let room = c.has_room.ensures.0 (c.if-not-has_room.false) in
     omega (arith, room.sized.tasks_most, room.sized.cores_most)
 
@@ -57,7 +50,7 @@ pub overflow_sub-least : goal.overflow_sub-least
 overflow_sub-least c = omega arith
 
 pub first_served-least-requires : goal.first_served-least-requires
-first_served-least-requires c = 
+first_served-least-requires c =
     let room = c.has_room.ensures.0 (c.if-not-has_room.false) in
     (omega (arith, room.sized.tasks_most, room.sized.cores_most, room.long), omega arith)
 
@@ -68,7 +61,7 @@ pub loop-q-smaller : goal.loop-q-smaller
 loop-q-smaller c = omega (arith, c.first_served-least.ensures.high)
 
 pub loop-q-preserved : goal.loop-q-preserved
-loop-q-preserved c = 
+loop-q-preserved c =
     let o = c.loop-q in
     let a = c.args in
     let first = c.first_served-least in (
@@ -79,7 +72,7 @@ loop-q-preserved c =
     )
 
 pub returns : goal.returns
-returns c = 
+returns c =
     let o = c.loop-q in
     let room = c.has_room.ensures.0 (c.if-not-has_room.false) in
     record {

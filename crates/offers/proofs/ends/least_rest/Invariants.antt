@@ -1,20 +1,14 @@
 -- `least_rest` asks the rests that start with ever more cores: of those asked none with fewer than `least` cores has a slack, and a rest that
 -- starts with as many has no fewer.
-use Prim.Native.Nat.{ℕ, ◌+◌, ◌-◌, ◌*◌, ◌≤◌, ◌<◌}
-use native.Mathlib.Omega.{arith}
-use mathlib.Core.Path.{◌≡◌, refl}
-use mathlib.Core.Logic.{⊎_elim}
+use Prim.Native.Nat.{ℕ, ◌+◌, ◌-◌, ◌≤◌, ◌<◌}
+use mathlib.Core.Path.{◌≡◌}
 use mathlib.Core.List.{List}
 use lib.ListN.{get_or}
-use borrow.Author.Rules.{rules}
-use borrow.Author.Tests.{not-true, not-false}
-use Rattle.records.proofs.Cases.{lt_or_le}
 use Rattle.sketch.specs.Slacks.{slack_at}
-use Rattle.offers.specs.Words.{FirstServed}
 use Rattle.offers.proofs.ends.least_rest.Given as goal
 
 -- no rest that starts with fewer than q cores has a slack with fewer than `least`
-abbrev Asked : (w : List ℕ) (l least q : ℕ) → Type 0
+abbrev pub Asked : (w : List ℕ) (l least q : ℕ) → Type 0
 Asked w l least q = (p b : ℕ) → 1 ≤ p → p < q → p ≤ b → b < least → get_or w (slack_at l p b) 0 ≡ 0
 
 abbrev pub invariant-loop-q : goal.invariant-loop-q

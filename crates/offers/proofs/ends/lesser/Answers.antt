@@ -1,4 +1,4 @@
--- `lesser` is `lesser`: its two cases.
+-- `lesser` is the `lesser` of specs: its two cases.
 use mathlib.Core.Path.{sym}
 use Rattle.search.proofs.Least.{lesser_low, lesser_high}
 use Rattle.offers.proofs.ends.lesser.Goals as goal

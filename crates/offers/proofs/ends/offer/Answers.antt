@@ -1,6 +1,6 @@
 -- `offer` writes what one copy and what any copies leave for each number of cores that it passes; the two rows stand apart. With fewer cores
 -- both leave nothing.
-use Prim.Native.Nat.{ℕ, ◌+◌, ◌-◌, ◌≤◌, ◌<◌}
+use Prim.Native.Nat.{ℕ, ◌+◌, ◌≤◌, ◌<◌}
 use native.Mathlib.Nat.{le_refl}
 use native.Mathlib.Omega.{arith}
 use mathlib.Core.Path.{◌≡◌, sym, ap, ◌∙◌}
@@ -8,17 +8,11 @@ use mathlib.Core.Logic.{⊎_elim}
 use mathlib.Core.List.{List}
 use lib.ListN.{length, get_or, set, replicate, length-set, get_or-replicate}
 use lib.Seq.{get_or-set_same, get_or-set_other}
-use borrow.Author.Rules.{rules}
 use Rattle.records.proofs.Cases.{lt_or_le}
-use Rattle.slack.specs.Fill.{left_by, best_by}
-use Rattle.offers.specs.Words.{time_at, row_of, NoneBelow}
+use Rattle.offers.specs.Words.{row_of}
 use Rattle.offers.proofs.Offering.{one_bare, any_bare}
 use Rattle.offers.proofs.ends.offer.Goals as goal
-
--- from q to b - 1 the list has one f from the start, and one g from 33 on
-record Both (w : List ℕ) (q b : ℕ) (f g : ℕ → ℕ) : Type 0 where
-  one : (j : ℕ) → q ≤ j → j < b → get_or w j 0 ≡ f j
-  any : (j : ℕ) → q ≤ j → j < b → get_or w (33 + j) 0 ≡ g j
+use Rattle.offers.proofs.ends.offer.Invariants.{Both}
 
 both-more : (w : List ℕ) (q b x y : ℕ) (f g : ℕ → ℕ) → 66 ≤ length w → b ≤ 32 → Both w q b f g → x ≡ f b → y ≡ g b → Both (set (set w b x) (33 + b) y) q (b + 1) f g
 both-more w q b x y f g long low h ex ey = record {
@@ -40,7 +34,7 @@ pub overflow_add-b : goal.overflow_add-b
 overflow_add-b c = omega arith
 
 pub loop-b-init : goal.loop-b-init
-loop-b-init c = 
+loop-b-init c =
     let a = c.args in (
       c.requires.5,
       λ bare blank. record {
@@ -51,7 +45,7 @@ loop-b-init c =
     )
 
 pub any_at-y-requires : goal.any_at-y-requires
-any_at-y-requires c = 
+any_at-y-requires c =
     let p = c.requires in
     (p.0, p.1, c.loop-b.invariant.2, omega arith, p.4, c.one_at-x.ensures)
 
@@ -77,7 +71,7 @@ pub loop-b-smaller : goal.loop-b-smaller
 loop-b-smaller c = omega arith
 
 pub loop-b-preserved : goal.loop-b-preserved
-loop-b-preserved c = 
+loop-b-preserved c =
     let o = c.loop-b in
     let a = c.args in
     let x = c.one_at-x in

@@ -1,24 +1,17 @@
 -- `offer` writes what one copy and what any copies leave for each number of cores that it passes; the two rows stand apart. With fewer cores
 -- both leave nothing.
 use Prim.Native.Nat.{ℕ, ◌+◌, ◌-◌, ◌≤◌, ◌<◌}
-use native.Mathlib.Nat.{le_refl}
-use native.Mathlib.Omega.{arith}
-use mathlib.Core.Path.{◌≡◌, sym, ap, ◌∙◌}
-use mathlib.Core.Logic.{⊎_elim}
+use mathlib.Core.Path.{◌≡◌}
 use mathlib.Core.List.{List}
-use lib.ListN.{length, get_or, set, replicate, length-set, get_or-replicate}
-use lib.Seq.{get_or-set_same, get_or-set_other}
-use borrow.Author.Rules.{rules}
-use Rattle.records.proofs.Cases.{lt_or_le}
+use lib.ListN.{length, get_or, replicate}
 use Rattle.slack.specs.Fill.{left_by, best_by}
 use Rattle.offers.specs.Words.{time_at, row_of, NoneBelow}
-use Rattle.offers.proofs.Offering.{one_bare, any_bare}
 use Rattle.offers.proofs.ends.offer.Given as goal
 
 -- from q to b - 1 the list has one f from the start, and one g from 33 on
-record Both (w : List ℕ) (q b : ℕ) (f g : ℕ → ℕ) : Type 0 where
-  one : (j : ℕ) → q ≤ j → j < b → get_or w j 0 ≡ f j
-  any : (j : ℕ) → q ≤ j → j < b → get_or w (33 + j) 0 ≡ g j
+pub record Both (w : List ℕ) (q b : ℕ) (f g : ℕ → ℕ) : Type 0 where
+  pub one : (j : ℕ) → q ≤ j → j < b → get_or w j 0 ≡ f j
+  pub any : (j : ℕ) → q ≤ j → j < b → get_or w (33 + j) 0 ≡ g j
 
 abbrev pub invariant-loop-b : goal.invariant-loop-b
 invariant-loop-b l =

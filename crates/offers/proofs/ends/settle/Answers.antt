@@ -1,5 +1,5 @@
 -- `settle` keeps the least of the entries that it has passed, and writes it over each of them.
-use Prim.Native.Nat.{ℕ, ◌+◌, ◌-◌, ◌≤◌, ◌<◌}
+use Prim.Native.Nat.{ℕ, ◌+◌, ◌≤◌, ◌<◌}
 use native.Mathlib.Nat.{le_refl}
 use native.Mathlib.Numerals.{add-one}
 use native.Mathlib.Omega.{arith}
@@ -8,7 +8,6 @@ use mathlib.Core.Logic.{⊎_elim}
 use mathlib.Core.List.{List}
 use lib.ListN.{length, get_or, length-set}
 use lib.Seq.{get_or-set_same, get_or-set_other}
-use borrow.Author.Rules.{rules}
 use Rattle.records.proofs.Cases.{lt_or_le}
 use Rattle.search.specs.Least.{least}
 use Rattle.search.proofs.Least.{least_none, least_more}
@@ -27,7 +26,7 @@ none-lowest : (row : List ℕ) (from c : ℕ) → NoneBelow row from → c ≤ f
 none-lowest row from c bare h = sym (least_none none c (λ j. get_or row j 0) (λ i u. omega (arith, bare i (omega arith))))
 
 pub loop-c-init : goal.loop-c-init
-loop-c-init c = 
+loop-c-init c =
     let a = c.args in (
       refl,
       λ bare. none-lowest a.row.now a.from a.from bare (le_refl _),
@@ -54,7 +53,7 @@ pub loop-c-smaller : goal.loop-c-smaller
 loop-c-smaller c = omega arith
 
 pub loop-c-preserved : goal.loop-c-preserved
-loop-c-preserved c = 
+loop-c-preserved c =
     let o = c.loop-c in
     let row₀ = c.args.row.now in
     let v = c.lesser-m.result in

@@ -1,17 +1,8 @@
 -- `settle` keeps the least of the entries that it has passed, and writes it over each of them.
 use Prim.Native.Nat.{ℕ, ◌+◌, ◌-◌, ◌≤◌, ◌<◌}
-use native.Mathlib.Nat.{le_refl}
-use native.Mathlib.Numerals.{add-one}
-use native.Mathlib.Omega.{arith}
-use mathlib.Core.Path.{◌≡◌, refl, sym, ◌∙◌}
-use mathlib.Core.Logic.{⊎_elim}
-use mathlib.Core.List.{List}
-use lib.ListN.{length, get_or, length-set}
-use lib.Seq.{get_or-set_same, get_or-set_other}
-use borrow.Author.Rules.{rules}
-use Rattle.records.proofs.Cases.{lt_or_le}
+use mathlib.Core.Path.{◌≡◌}
+use lib.ListN.{length, get_or}
 use Rattle.search.specs.Least.{least}
-use Rattle.search.proofs.Least.{least_none, least_more}
 use Rattle.slack.specs.Fill.{lowest}
 use Rattle.slack.specs.Problem.{none}
 use Rattle.offers.specs.Words.{NoneBelow}

@@ -4,40 +4,38 @@ use Prim.Native.Nat.{ℕ}
 use native.Mathlib.Omega.{arith}
 use mathlib.Core.Path.{refl, ap, ◌∙◌}
 use lib.ListN.{replicate}
-use borrow.Author.Rules.{rules}
-use borrow.Author.Tests.{not-true, not-false}
 use Rattle.modules.specs.Model.{chain_of}
 use Rattle.offers.proofs.Offering.{left_offered}
 use Rattle.offers.proofs.Rows.{unsent_least}
 use Rattle.offers.proofs.leave.left_from.Goals as goal
 
 pub returns-then-not-askable : goal.returns-then-not-askable
-returns-then-not-askable c = 
+returns-then-not-askable c =
     let not-asked = c.askable.ensures.1 (c.if-not-askable.true) in
     record { high = omega arith; made = λ ask. absurd (not-asked ask); out = λ h. (refl, refl) }
 
 pub cheapest-requires : goal.cheapest-requires
-cheapest-requires c = 
+cheapest-requires c =
     let ask = c.askable.ensures.0 (c.if-not-askable.false) in
     (ask.roomy, ask.some, ask.inside, ask.positive, ask.fits, ap (λ (v : ℕ). replicate 33 v) c.blank-unsent.ensures)
 
 pub overflow_sub-cores : goal.overflow_sub-cores
-overflow_sub-cores c = 
+overflow_sub-cores c =
     let ask = c.askable.ensures.0 (c.if-not-askable.false) in
     omega (arith, ask.fits)
 
 pub first_sent-low-requires : goal.first_sent-low-requires
-first_sent-low-requires c = 
+first_sent-low-requires c =
     let ask = c.askable.ensures.0 (c.if-not-askable.false) in
     (omega (arith, ask.roomy.sized.cores_most), omega (arith, ask.fits))
 
 pub offer-requires : goal.offer-requires
-offer-requires c = 
+offer-requires c =
     let ask = c.askable.ensures.0 (c.if-not-askable.false) in
     (ask.low, ask.positive, omega (arith, ask.fits, c.first_sent-low.ensures.0), ask.roomy.sized.cores_most, omega arith, ask.long)
 
 pub returns : goal.returns
-returns c = 
+returns c =
     let a = c.args in
     let k = chain_of a.costs.now a.board in
     let ask = c.askable.ensures.0 (c.if-not-askable.false) in

@@ -19,7 +19,7 @@ pub returns-then-board-gt-MOST_CORES : goal.returns-then-board-gt-MOST_CORES
 returns-then-board-gt-MOST_CORES c = (λ e. true_not_false false e refl, λ e r. omega (arith, c.if-board-gt-MOST_CORES.true, r.sized.cores_most))
 
 pub returns : goal.returns
-returns c = 
+returns c =
     let a = c.args in (
       λ e. record {
         sized = record { some_tasks = omega arith; tasks_most = omega arith; one_core = omega arith; cores_most = omega arith };

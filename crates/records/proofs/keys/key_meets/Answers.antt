@@ -1,4 +1,4 @@
--- `key_meets` is `key_meets`: each branch says what one more of its tests is.
+-- `key_meets` is the `key_meets` of specs: each branch says what one more of its tests is.
 use mathlib.Core.Path.{sym, ◌∙◌}
 use borrow.Author.Tests.{eq-eqb, ne_eqb}
 use Rattle.records.specs.Costs.{key_meets}

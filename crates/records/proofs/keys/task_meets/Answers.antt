@@ -1,4 +1,4 @@
--- `task_meets` is `task_meets`: the kind decides whether the byte counts.
+-- `task_meets` is the `task_meets` of specs: the kind decides whether the byte counts.
 use borrow.Author.Tests.{eq-eqb, ne_eqb}
 use Rattle.records.specs.Costs.{task_meets}
 use Rattle.records.proofs.keys.task_meets.Goals as goal

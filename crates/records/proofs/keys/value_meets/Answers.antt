@@ -1,4 +1,4 @@
--- `value_meets` is `value_meets`: each branch says what one more of its tests is.
+-- `value_meets` is the `value_meets` of specs: each branch says what one more of its tests is.
 use borrow.Author.Tests.{le-leb, lt-leb, eq-eqb, ne_eqb}
 use Rattle.records.specs.Costs.{value_meets}
 use Rattle.records.proofs.keys.value_meets.Goals as goal

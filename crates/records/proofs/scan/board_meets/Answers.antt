@@ -1,4 +1,4 @@
--- `board_meets` is `board_meets`: at each `return` the tests that led there decide the conjunction.
+-- `board_meets` is the `board_meets` of specs: at each `return` the tests that led there decide the conjunction.
 use native.Mathlib.Omega.{arith}
 use borrow.Author.Tests.{le-leb, lt-leb}
 use Rattle.records.specs.Costs.{most_tasks, most_cores, board_meets}

@@ -1,4 +1,4 @@
--- `first_fault` is `first_fault` of the due keys: the walk goes on behind each kind that is clean, and the file has the records.
+-- `first_fault` is the `first_fault` of specs of the due keys: the walk goes on behind each kind that is clean, and the file has the records.
 use mathlib.Core.Path.{sym, ◌∙◌}
 use Prim.Native.Nat.{◌<◌}
 use native.Mathlib.Omega.{arith}

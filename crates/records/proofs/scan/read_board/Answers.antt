@@ -1,4 +1,4 @@
--- `read_board` is `read_board`: the two tests of the length decide which branch is due.
+-- `read_board` is the `read_board` of specs: the two tests of the length decide which branch is due.
 use borrow.Author.Tests.{eq-eqb, ne_eqb, le-leb, lt-leb}
 use Rattle.records.specs.Costs.{length_meets, read_board}
 use Rattle.records.proofs.scan.read_board.Goals as goal

@@ -1,4 +1,4 @@
--- `read_head` is `read_head`: the first record's bytes and the board's test decide which branch is due.
+-- `read_head` is the `read_head` of specs: the first record's bytes and the board's test decide which branch is due.
 use borrow.Author.Tests.{eq-eqb, ne_eqb}
 use Rattle.records.specs.Costs.{head_meets, read_head}
 use Rattle.records.proofs.scan.read_head.Goals as goal

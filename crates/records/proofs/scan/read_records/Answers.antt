@@ -1,4 +1,4 @@
--- `read_records` is `read_records`: the length, then what the walk found, decides which branch is due.
+-- `read_records` is the `read_records` of specs: the length, then what the walk found, decides which branch is due.
 use borrow.Author.Tests.{eq-eqb, ne_eqb}
 use Rattle.records.specs.Costs.{read_records}
 use Rattle.records.proofs.scan.read_records.Goals as goal

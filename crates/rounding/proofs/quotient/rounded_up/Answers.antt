@@ -1,4 +1,4 @@
--- `rounded_up` is `rounded_up`: by 0 the quotient is 0.
+-- `rounded_up` is the `rounded_up` of specs: by 0 the quotient is 0.
 use mathlib.Core.Path.{◌≡◌, refl, sym}
 use Prim.Native.Nat.{◌+◌, ◌-◌}
 use native.Mathlib.Nat.{div-zero}

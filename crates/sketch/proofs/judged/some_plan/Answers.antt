@@ -1,8 +1,6 @@
 -- `some_plan` answers what `judged` says of the plan that is read off a board in range, and else a threshold above TOP, of which nothing is
 -- promised.
 use native.Mathlib.Omega.{arith}
-use borrow.Author.Rules.{rules}
-use borrow.Author.Tests.{not-false}
 use Rattle.sketch.proofs.judged.some_plan.Goals as goal
 
 pub returns-then-not-in_range : goal.returns-then-not-in_range

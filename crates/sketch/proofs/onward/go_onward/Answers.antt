@@ -1,11 +1,9 @@
 -- `go_onward` stays in the chain and in the room: a module that keeps the rules with one copy ends within its reach, and has no more copies
 -- than the room holds.
-use Prim.Native.Nat.{◌+◌, ◌-◌, ◌≤◌}
+use Prim.Native.Nat.{◌+◌}
 use mathlib.Core.Path.{sym, ◌∙◌}
 use native.Mathlib.Nat.{mul-le-mul_right}
 use native.Mathlib.Omega.{arith}
-use borrow.Author.Rules.{rules}
-use borrow.Author.Tests.{not-false}
 use Rattle.modules.specs.Model.{chain_of}
 use Rattle.modules.proofs.Laws.{rules_reach}
 use Rattle.sketch.proofs.onward.go_onward.Goals as goal

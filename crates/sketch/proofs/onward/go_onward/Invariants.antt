@@ -1,13 +1,6 @@
 -- `go_onward` stays in the chain and in the room: a module that keeps the rules with one copy ends within its reach, and has no more copies
 -- than the room holds.
-use Prim.Native.Nat.{◌+◌, ◌-◌, ◌≤◌}
-use mathlib.Core.Path.{sym, ◌∙◌}
-use native.Mathlib.Nat.{mul-le-mul_right}
-use native.Mathlib.Omega.{arith}
-use borrow.Author.Rules.{rules}
-use borrow.Author.Tests.{not-false}
-use Rattle.modules.specs.Model.{chain_of}
-use Rattle.modules.proofs.Laws.{rules_reach}
+use Prim.Native.Nat.{◌-◌, ◌≤◌}
 use Rattle.sketch.proofs.onward.go_onward.Given as goal
 
 abbrev pub invariant-loop-l : goal.invariant-loop-l

@@ -1,9 +1,8 @@
 -- `next_cores` stays within the room: each core count that is kept has passed the loop's test.
-use Prim.Native.Nat.{◌+◌, ◌-◌, ◌≤◌}
-use mathlib.Core.Logic.{⊎_elim}
+use Prim.Native.Nat.{◌≤◌}
 use native.Mathlib.Omega.{arith}
-use borrow.Author.Rules.{rules}
 use Rattle.sketch.proofs.onward.next_cores.Goals as goal
+use Rattle.sketch.proofs.onward.next_cores.Goals.{then-e-slack+then-e-least, then-e-slack+else-e-least, else-e-slack}
 
 pub overflow_mul-base : goal.overflow_mul-base
 overflow_mul-base c = omega arith
@@ -32,7 +31,8 @@ loop-i-smaller c = omega arith
 pub loop-i-preserved : goal.loop-i-preserved
 loop-i-preserved c =
     let room = c.args.room in
-    let kept : c.if-e-slack.best ≤ room = ⊎_elim (λ k. omega (arith, k.2)) (⊎_elim (λ k. omega (arith, k.2)) (λ k. omega (arith, k.1))) c.if-e-slack.branch in
+    let kept : c.if-e-slack.best ≤ room =
+    elim c.if-e-slack.branch [ then-e-slack+then-e-least w ↦ omega arith | then-e-slack+else-e-least w ↦ omega arith | else-e-slack w ↦ omega arith ] in
     (kept, omega arith, omega arith)
 
 pub returns : goal.returns

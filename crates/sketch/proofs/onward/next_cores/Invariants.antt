@@ -1,8 +1,5 @@
 -- `next_cores` stays within the room: each core count that is kept has passed the loop's test.
 use Prim.Native.Nat.{◌+◌, ◌-◌, ◌≤◌}
-use mathlib.Core.Logic.{⊎_elim}
-use native.Mathlib.Omega.{arith}
-use borrow.Author.Rules.{rules}
 use Rattle.sketch.proofs.onward.next_cores.Given as goal
 
 abbrev pub invariant-loop-i : goal.invariant-loop-i

@@ -1,9 +1,6 @@
 -- `read_off` ends, since each module ends later than the one before, and stays within its room, of which each module takes its cores.
-use Prim.Native.Nat.{◌-◌, ◌≤◌}
-use mathlib.Core.Path.{◌≡◌, refl, ◌∙◌}
+use mathlib.Core.Path.{refl, ◌∙◌}
 use native.Mathlib.Omega.{arith}
-use borrow.Author.Rules.{rules}
-use lib.ListN.{length}
 use Rattle.sketch.proofs.onward.read_off.Goals as goal
 
 pub loop-t-init : goal.loop-t-init

@@ -1,9 +1,5 @@
 -- `with_copies` stays within the room: so many copies have so many cores, and what is left is at most the room.
 use Prim.Native.Nat.{◌+◌, ◌-◌, ◌≤◌}
-use native.Mathlib.Nat.{mul-le-mul, mul-le-mul_right}
-use mathlib.Core.Path.{refl}
-use native.Mathlib.Omega.{arith}
-use borrow.Author.Rules.{rules}
 use Rattle.sketch.proofs.onward.with_copies.Given as goal
 
 abbrev pub invariant-loop-r : goal.invariant-loop-r

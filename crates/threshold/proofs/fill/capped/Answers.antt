@@ -1,6 +1,5 @@
 -- `capped` is the choice by the cap.
 use borrow.Author.Tests.{le-leb, lt-leb}
-use borrow.Author.Rules.{rules}
 use Rattle.threshold.proofs.fill.capped.Goals as goal
 
 pub returns-then-own : goal.returns-then-own

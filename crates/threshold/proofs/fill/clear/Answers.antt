@@ -1,8 +1,6 @@
 -- `clear` goes from task to task: no rest after one that it has passed has a slack.
-use Prim.Native.Nat.{◌-◌, ◌≤◌}
 use native.Mathlib.Omega.{arith}
 use mathlib.Core.Path.{◌≡◌}
-use Rattle.threshold.specs.Words.{NoSlacks}
 use Rattle.threshold.proofs.Laying.{slacks_none, slacks_more}
 use Rattle.threshold.proofs.fill.clear.Goals as goal
 
@@ -19,7 +17,7 @@ pub loop-t-smaller : goal.loop-t-smaller
 loop-t-smaller c = omega arith
 
 pub loop-t-preserved : goal.loop-t-preserved
-loop-t-preserved c = 
+loop-t-preserved c =
     let o = c.loop-t in
     (omega arith, slacks_more _ _ _ o.t _ (omega arith) (omega arith) o.invariant.1 c.clear_after.ensures)
 
@@ -27,7 +25,7 @@ pub shape_of-work : goal.shape_of-work
 shape_of-work c = c.loop-t.invariant.1.long
 
 pub returns : goal.returns
-returns c = 
+returns c =
     let o = c.loop-t in
     let e : o.t ≡ c.args.tasks = omega arith in
     rw (← e) o.invariant.1

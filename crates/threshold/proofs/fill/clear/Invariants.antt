@@ -1,9 +1,6 @@
 -- `clear` goes from task to task: no rest after one that it has passed has a slack.
 use Prim.Native.Nat.{◌-◌, ◌≤◌}
-use native.Mathlib.Omega.{arith}
-use mathlib.Core.Path.{◌≡◌}
 use Rattle.threshold.specs.Words.{NoSlacks}
-use Rattle.threshold.proofs.Laying.{slacks_none, slacks_more}
 use Rattle.threshold.proofs.fill.clear.Given as goal
 
 abbrev pub invariant-loop-t : goal.invariant-loop-t

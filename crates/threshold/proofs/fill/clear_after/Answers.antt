@@ -1,8 +1,7 @@
 -- `clear_after` writes zeros one by one: the words from the task's first below i are 0, all others as they were.
-use Prim.Native.Nat.{◌+◌, ◌-◌, ◌*◌, ◌≤◌}
+use Prim.Native.Nat.{◌+◌, ◌*◌}
 use native.Mathlib.Omega.{arith}
 use mathlib.Core.Path.{◌≡◌}
-use Rattle.threshold.specs.Words.{Cleared}
 use Rattle.threshold.proofs.Laying.{cleared_none, cleared_more}
 use Rattle.threshold.proofs.fill.clear_after.Goals as goal
 
@@ -34,7 +33,7 @@ pub loop-i-smaller : goal.loop-i-smaller
 loop-i-smaller c = omega arith
 
 pub loop-i-preserved : goal.loop-i-preserved
-loop-i-preserved c = 
+loop-i-preserved c =
     let o = c.loop-i in
     let a = c.args in
     (omega arith, omega arith, cleared_more a.work.now o.work (a.t * 1089) o.i o.invariant.0 (omega (arith, o.invariant.2.long)) o.invariant.2)
@@ -43,7 +42,7 @@ pub shape_of-work : goal.shape_of-work
 shape_of-work c = c.loop-i.invariant.2.long
 
 pub returns : goal.returns
-returns c = 
+returns c =
     let o = c.loop-i in
     let a = c.args in
     let e : o.i ≡ a.t * 1089 + (a.cores + 1) * 33 = omega arith in

@@ -1,9 +1,6 @@
 -- `clear_after` writes zeros one by one: the words from the task's first below i are 0, all others as they were.
-use Prim.Native.Nat.{◌+◌, ◌-◌, ◌*◌, ◌≤◌}
-use native.Mathlib.Omega.{arith}
-use mathlib.Core.Path.{◌≡◌}
+use Prim.Native.Nat.{◌-◌, ◌*◌, ◌≤◌}
 use Rattle.threshold.specs.Words.{Cleared}
-use Rattle.threshold.proofs.Laying.{cleared_none, cleared_more}
 use Rattle.threshold.proofs.fill.clear_after.Given as goal
 
 abbrev pub invariant-loop-i : goal.invariant-loop-i

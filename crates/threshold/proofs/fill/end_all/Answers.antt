@@ -8,12 +8,12 @@ use Rattle.threshold.proofs.Ending.{Ended, ended_none, ended_row, ended_rest, en
 use Rattle.threshold.proofs.fill.end_all.Goals as goal
 
 pub loop-q-init : goal.loop-q-init
-loop-q-init c = 
+loop-q-init c =
     let a = c.args in
     (le_refl 1, omega arith, ended_none (chain_of a.costs.now a.board) a.n c.requires.1 (omega arith) (omega arith) a.work.now a.l c.requires.2 c.requires.3 c.requires.4 c.requires.5)
 
 pub end_at-requires : goal.end_at-requires
-end_at-requires c = 
+end_at-requires c =
     let o = c.loop-q in
     let a = c.args in
     let k = chain_of a.costs.now a.board in
@@ -38,7 +38,7 @@ pub loop-q-smaller : goal.loop-q-smaller
 loop-q-smaller c = omega arith
 
 pub loop-q-preserved : goal.loop-q-preserved
-loop-q-preserved c = 
+loop-q-preserved c =
     let o = c.loop-q in
     let a = c.args in
     let pushed = c.end_at.ensures in
@@ -48,7 +48,7 @@ pub shape_of-work : goal.shape_of-work
 shape_of-work c = c.loop-q.invariant.2.long
 
 pub returns : goal.returns
-returns c = 
+returns c =
     let o = c.loop-q in
     let a = c.args in
     let i = o.invariant.2 in

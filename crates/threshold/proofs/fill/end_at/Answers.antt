@@ -23,14 +23,14 @@ leaves c b w left n extra l q least r area high e some inside positive fits fill
     made.made (record { roomy = area; low = high; some = some; inside = inside; positive = positive; fits = fits; long = length-replicate {A = ℕ} 66 0 }) e rest filled refl
 
 pub returns-then-end-least : goal.returns-then-end-least
-returns-then-end-least c = 
+returns-then-end-least c =
     let a = c.args in
     let k = chain_of a.costs.now a.board in
     pushed_bare k a.n a.l a.q a.work.now c.requires.1 c.requires.6 (omega arith)
     (λ i h. unsent_least k a.n a.work.now a.l a.q a.least c.requires.5 c.requires.10 c.requires.9 i (omega arith) (omega arith))
 
 pub returns-then-work-alone : goal.returns-then-work-alone
-returns-then-work-alone c = 
+returns-then-work-alone c =
     let a = c.args in
     let k = chain_of a.costs.now a.board in
     let none = pushed_none k a.work.now _ _ a.l a.q a.fixed c.requires.5 (omega arith) (omega arith) c.requires.6 c.requires.7 c.requires.8 c.requires.3 in
@@ -38,21 +38,21 @@ returns-then-work-alone c =
     a.work.now a.l (a.l - 1) (omega arith) none (omega arith) (omega arith)
 
 pub returns-then-cores-start : goal.returns-then-cores-start
-returns-then-cores-start c = 
+returns-then-cores-start c =
     let a = c.args in
     let k = chain_of a.costs.now a.board in
     let made = leaves k a.board a.work.now _ a.n a.extra a.l a.q a.least _ c.requires.0 c.requires.1 c.requires.2 c.requires.4 c.requires.5 c.requires.6 (omega (arith, c.if-end-least.false)) c.requires.9 c.requires.10 c.left_from-start.ensures in
     pushed_short k a.n a.l a.q _ _ a.work.now made c.if-cores-start.true
 
 pub push-requires : goal.push-requires
-push-requires c = 
+push-requires c =
     let a = c.args in
     let k = chain_of a.costs.now a.board in
     let made = leaves k a.board a.work.now _ a.n a.extra a.l a.q a.least _ c.requires.0 c.requires.1 c.requires.2 c.requires.4 c.requires.5 c.requires.6 (omega (arith, c.if-end-least.false)) c.requires.9 c.requires.10 c.left_from-start.ensures in
     (omega arith, omega arith, omega arith, made.late, c.if-cores-start.false, omega arith, made.bare, left_no_more k a.n a.l a.q _ _ made)
 
 pub returns : goal.returns
-returns c = 
+returns c =
     let a = c.args in
     let k = chain_of a.costs.now a.board in
     let made = leaves k a.board a.work.now _ a.n a.extra a.l a.q a.least _ c.requires.0 c.requires.1 c.requires.2 c.requires.4 c.requires.5 c.requires.6 (omega (arith, c.if-end-least.false)) c.requires.9 c.requires.10 c.left_from-start.ensures in

@@ -11,7 +11,7 @@ use Rattle.threshold.proofs.Ending.{laid_words, cleared_after, filled_all}
 use Rattle.threshold.proofs.fill.fill.Goals as goal
 
 pub loop-l-init : goal.loop-l-init
-loop-l-init c = 
+loop-l-init c =
     let a = c.args in
     let k = chain_of a.costs.now a.board in
     let cleared = c.clear.ensures in (
@@ -23,7 +23,7 @@ loop-l-init c =
     )
 
 pub end_all-requires : goal.end_all-requires
-end_all-requires c = 
+end_all-requires c =
     let o = c.loop-l in
     let cleared = c.clear.ensures in
     (record { sized = c.requires.0.sized; long = omega (arith, c.requires.0.long, o.invariant.1, cleared.long) }, c.requires.1, omega arith, o.invariant.0, o.invariant.2, o.invariant.3)
@@ -35,7 +35,7 @@ pub loop-l-smaller : goal.loop-l-smaller
 loop-l-smaller c = omega arith
 
 pub loop-l-preserved : goal.loop-l-preserved
-loop-l-preserved c = 
+loop-l-preserved c =
     let o = c.loop-l in
     let e = c.end_all.ensures in
     (omega arith, e.0 ∙ o.invariant.1, e.1, e.2, λ j h. e.3 j h ∙ o.invariant.4 j h)
@@ -44,7 +44,7 @@ pub shape_of-work : goal.shape_of-work
 shape_of-work c = c.loop-l.invariant.1 ∙ c.clear.ensures.long
 
 pub returns : goal.returns
-returns c = 
+returns c =
     let i = c.loop-l.invariant in
     let a = c.args in
     let cleared = c.clear.ensures in

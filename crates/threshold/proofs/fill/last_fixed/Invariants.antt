@@ -1,12 +1,7 @@
 -- `last_fixed` passes tasks that may have copies from l on downwards: every module up to l from after them may have copies.
-use native.Mathlib.Nat.{le_refl}
-use native.Mathlib.Omega.{arith}
-use mathlib.Core.Path.{◌≡◌, sym, ◌∙◌}
 use Prim.Native.Nat.{◌≤◌}
-use borrow.Author.Rules.{rules}
-use borrow.Author.Tests.{not-true, not-false}
 use Rattle.modules.specs.Model.{chain_of}
-use Rattle.threshold.proofs.Laying.{Free, free_more, fixed_here, fixed_none}
+use Rattle.threshold.proofs.Laying.{Free}
 use Rattle.threshold.proofs.fill.last_fixed.Given as goal
 
 abbrev pub invariant-loop-t : goal.invariant-loop-t

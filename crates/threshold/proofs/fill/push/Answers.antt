@@ -25,7 +25,7 @@ capped_le own taken e = ⊎_elim
     (lt_or_le none own)
 
 pub loop-t-init : goal.loop-t-init
-loop-t-init c = 
+loop-t-init c =
     let a = c.args in (
       refl,
       le_refl _,
@@ -64,7 +64,7 @@ pub shape_of-work-then-work-i : goal.shape_of-work-then-work-i
 shape_of-work-then-work-i c = c.loop-t.invariant.0
 
 pub returns-then-work-i : goal.returns-then-work-i
-returns-then-work-i c = 
+returns-then-work-i c =
     let o = c.loop-t in
     let a = c.args in (
       o.invariant.0,
@@ -74,7 +74,7 @@ returns-then-work-i c =
     )
 
 pub grow-own-requires : goal.grow-own-requires
-grow-own-requires c = 
+grow-own-requires c =
     let o = c.loop-t in
     let a = c.args in
     (omega arith, omega arith, omega arith, omega arith, word_reached o.work (o.t - 1) a.l a.q (omega arith) (omega arith), omega arith)
@@ -83,7 +83,7 @@ pub shape_of-work-then-cores-first : goal.shape_of-work-then-cores-first
 shape_of-work-then-cores-first c = c.loop-t.invariant.0
 
 pub returns-then-cores-first : goal.returns-then-cores-first
-returns-then-cores-first c = 
+returns-then-cores-first c =
     let o = c.loop-t in
     let a = c.args in
     let grown = c.grow-own in
@@ -121,7 +121,7 @@ pub loop-t-smaller : goal.loop-t-smaller
 loop-t-smaller c = omega arith
 
 pub loop-t-preserved : goal.loop-t-preserved
-loop-t-preserved c = 
+loop-t-preserved c =
     let o = c.loop-t in
     let a = c.args in
     let grown = c.grow-own in
@@ -135,7 +135,7 @@ loop-t-preserved c =
     let late : a.q ≤ served.result = omega (arith, found.low) in
     let spent = spent_more a.left.now a.q a.fixed (o.t - 1) _ rows o.t o.first served.result o.own grown.result taken.result a.cores
     (omega arith) o.invariant.3 (omega (arith, grown.ensures.0)) (capped_le _ _ taken.ensures) c.requires.7 found o.invariant.5 in (
-      raised.auto.0 ∙ o.invariant.0,
+      raised.auto.work ∙ o.invariant.0,
       omega arith,
       omega (arith, grown.ensures.1, o.invariant.1, o.invariant.2, turn),
       late,
@@ -157,7 +157,7 @@ pub shape_of-work : goal.shape_of-work
 shape_of-work c = c.loop-t.invariant.0
 
 pub returns : goal.returns
-returns c = 
+returns c =
     let o = c.loop-t in (
       o.invariant.0,
       λ k board inside some laid fixes. let z : o.t ≡ 0 = omega arith in rw z at (o.invariant.6 k board inside some laid fixes).1,

@@ -5,17 +5,17 @@ use native.Mathlib.Nat.{le_refl}
 use native.Mathlib.Omega.{arith}
 use mathlib.Core.Path.{◌≡◌, refl, ap, ◌∙◌}
 use mathlib.Core.Bool.{cond}
-use mathlib.Core.Logic.{⊎_elim, ◌⊎◌, inl, inr}
+use mathlib.Core.Logic.{⊎_elim, inl, inr}
 use mathlib.Core.List.{List}
 use lib.ListN.{length, get_or, set, length-set}
 use lib.Dec.{leb}
 use lib.Seq.{get_or-set_same, get_or-set_other}
-use borrow.Author.Rules.{rules}
 use borrow.Author.Tests.{le-leb, lt-leb}
 use Rattle.records.proofs.Cases.{lt_or_le}
 use Rattle.slack.specs.Greatest.{larger}
 use Rattle.slack.specs.Problem.{none}
 use Rattle.threshold.proofs.fill.raise.Goals as goal
+use Rattle.threshold.proofs.fill.raise.Invariants.{Passed}
 
 -- what is left beside a capped body is what is left beside the body
 beside-capped : (x own : ℕ) → x ≤ none → x - cond (leb own none) own none ≡ x - own
@@ -23,14 +23,6 @@ beside-capped x own h = ⊎_elim
     (λ d. rw (lt-leb own none d) (omega arith))
     (λ d. rw (le-leb own none d) (omega arith))
     (lt_or_le none own)
-
--- the words from at + low to at + b - 1 are raised, and no others
-record Passed (w w' : List ℕ) (row : ℕ → ℕ) (at own low high b : ℕ) : Type 0 where
-  long : length w' ≡ length w
-  start : low ≤ b
-  near : b - low ≤ high + 1 - low
-  made : (j : ℕ) → low ≤ j → j < b → get_or w' (at + j) 0 ≡ larger (get_or w (at + j) 0) (row j - own)
-  kept : (j : ℕ) → (j < at + low) ⊎ (at + b ≤ j) → get_or w' j 0 ≡ get_or w j 0
 
 passed_more : (w w' : List ℕ) (row : ℕ → ℕ) (at own low high b v : ℕ) → b ≤ high → at + b < length w → Passed w w' row at own low high b
     → v ≡ larger (get_or w' (at + b) 0) (row b - own) → Passed w (set w' (at + b) v) row at own low high (b + 1)
@@ -84,7 +76,7 @@ pub loop-b-smaller : goal.loop-b-smaller
 loop-b-smaller c = omega arith
 
 pub loop-b-preserved : goal.loop-b-preserved
-loop-b-preserved c = 
+loop-b-preserved c =
     let o = c.loop-b in
     let a = c.args in
     let left = c.beside-v.ensures in
@@ -94,6 +86,6 @@ pub shape_of-work : goal.shape_of-work
 shape_of-work c = c.loop-b.invariant.long
 
 pub returns : goal.returns
-returns c = 
+returns c =
     let i = c.loop-b.invariant in
     record { long = i.long; made = λ b p l. i.made b p (omega arith); kept = λ j x. i.kept j (⊎_elim (λ d. inl d) (λ d. ⊎_elim (λ u. inl u) (λ u. inr (omega (arith, i.near))) (lt_or_le j _)) x) }

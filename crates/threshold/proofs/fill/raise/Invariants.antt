@@ -1,29 +1,20 @@
 -- `raise` raises the words that it passes and leaves all others; a body above every word counts as the greatest number of 32 bits, which
 -- leaves nothing either.
 use Prim.Native.Nat.{ℕ, ◌+◌, ◌-◌, ◌≤◌, ◌<◌}
-use native.Mathlib.Nat.{le_refl}
-use native.Mathlib.Omega.{arith}
-use mathlib.Core.Path.{◌≡◌, refl, ap, ◌∙◌}
-use mathlib.Core.Bool.{cond}
-use mathlib.Core.Logic.{⊎_elim, ◌⊎◌, inl, inr}
+use mathlib.Core.Path.{◌≡◌}
+use mathlib.Core.Logic.{◌⊎◌}
 use mathlib.Core.List.{List}
-use lib.ListN.{length, get_or, set, length-set}
-use lib.Dec.{leb}
-use lib.Seq.{get_or-set_same, get_or-set_other}
-use borrow.Author.Rules.{rules}
-use borrow.Author.Tests.{le-leb, lt-leb}
-use Rattle.records.proofs.Cases.{lt_or_le}
+use lib.ListN.{length, get_or}
 use Rattle.slack.specs.Greatest.{larger}
-use Rattle.slack.specs.Problem.{none}
 use Rattle.threshold.proofs.fill.raise.Given as goal
 
 -- the words from at + low to at + b - 1 are raised, and no others
-record Passed (w w' : List ℕ) (row : ℕ → ℕ) (at own low high b : ℕ) : Type 0 where
-  long : length w' ≡ length w
-  start : low ≤ b
-  near : b - low ≤ high + 1 - low
-  made : (j : ℕ) → low ≤ j → j < b → get_or w' (at + j) 0 ≡ larger (get_or w (at + j) 0) (row j - own)
-  kept : (j : ℕ) → (j < at + low) ⊎ (at + b ≤ j) → get_or w' j 0 ≡ get_or w j 0
+pub record Passed (w w' : List ℕ) (row : ℕ → ℕ) (at own low high b : ℕ) : Type 0 where
+  pub long : length w' ≡ length w
+  pub start : low ≤ b
+  pub near : b - low ≤ high + 1 - low
+  pub made : (j : ℕ) → low ≤ j → j < b → get_or w' (at + j) 0 ≡ larger (get_or w (at + j) 0) (row j - own)
+  pub kept : (j : ℕ) → (j < at + low) ⊎ (at + b ≤ j) → get_or w' j 0 ≡ get_or w j 0
 
 abbrev pub invariant-loop-b : goal.invariant-loop-b
 invariant-loop-b l =

@@ -10,7 +10,7 @@ use Rattle.threshold.proofs.Hunting.{bracket_narrow, tried_half, width_none, bra
 use Rattle.threshold.proofs.hunt.halve.Goals as goal
 
 pub loop-left-init : goal.loop-left-init
-loop-left-init c = 
+loop-left-init c =
     let a = c.args in
     (refl, c.requires.1, c.requires.2, bracket_narrow (chain_of a.costs.now a.board) c.requires.2, λ j h. refl)
 
@@ -18,7 +18,7 @@ pub shape_of-work-then-h : goal.shape_of-work-then-h
 shape_of-work-then-h c = c.loop-left.invariant.0
 
 pub returns-then-h : goal.returns-then-h
-returns-then-h c = 
+returns-then-h c =
     let i = c.loop-left.invariant in
     let a = c.args in
     (i.0, i.1, bracket_decided (chain_of a.costs.now a.board) i.2 c.if-h.true, i.4)
@@ -27,12 +27,12 @@ pub overflow_add-n : goal.overflow_add-n
 overflow_add-n c = let i = c.loop-left.invariant in omega (arith, i.2.ordered, i.2.high)
 
 pub fill-requires : goal.fill-requires
-fill-requires c = 
+fill-requires c =
     let i = c.loop-left.invariant in
     (rw i.0 c.requires.0, omega (arith, c.if-h.false, i.2.high), i.1)
 
 pub narrowed-next-requires : goal.narrowed-next-requires
-narrowed-next-requires c = 
+narrowed-next-requires c =
     let i = c.loop-left.invariant in
     let f = c.fill.ensures in
     let below = c.if-h.false in
@@ -45,7 +45,7 @@ pub loop-left-smaller : goal.loop-left-smaller
 loop-left-smaller c = omega arith
 
 pub loop-left-preserved : goal.loop-left-preserved
-loop-left-preserved c = 
+loop-left-preserved c =
     let o = c.loop-left in
     let i = o.invariant in
     let a = c.args in
@@ -57,7 +57,7 @@ pub shape_of-work : goal.shape_of-work
 shape_of-work c = c.loop-left.invariant.0
 
 pub returns : goal.returns
-returns c = 
+returns c =
     let i = c.loop-left.invariant in
     let a = c.args in
     (i.0, i.1, bracket_decided (chain_of a.costs.now a.board) i.2 (width_none (chain_of a.costs.now a.board) _ _ c.loop-left.left (omega arith) i.3), i.4)

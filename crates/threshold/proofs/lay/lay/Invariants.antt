@@ -1,7 +1,6 @@
 -- `lay` lays the words task by task: those of the tasks before t + 1 stand, and those behind the tables stay.
-use mathlib.Core.Path.{◌≡◌, refl, ◌∙◌}
+use mathlib.Core.Path.{◌≡◌}
 use Prim.Native.Nat.{◌-◌, ◌≤◌}
-use native.Mathlib.Omega.{arith}
 use lib.ListN.{length}
 use Rattle.modules.specs.Model.{chain_of}
 use Rattle.threshold.specs.Words.{KeptBeyond, LaidTo}

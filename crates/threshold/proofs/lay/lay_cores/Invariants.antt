@@ -1,11 +1,10 @@
 -- `lay_cores` lays the words of one task core by core: those of the tasks before and of fewer cores stay, and those behind the tables.
-use mathlib.Core.Path.{◌≡◌, refl, ◌∙◌}
+use mathlib.Core.Path.{◌≡◌}
 use Prim.Native.Nat.{◌+◌, ◌-◌, ◌≤◌}
-use native.Mathlib.Omega.{arith}
 use lib.ListN.{length}
 use Rattle.modules.specs.Model.{chain_of}
 use Rattle.threshold.specs.Words.{KeptBeyond}
-use Rattle.threshold.proofs.Laying.{LaidUpto, laid_start, laid_more, laid_beyond, laid_end}
+use Rattle.threshold.proofs.Laying.{LaidUpto}
 use Rattle.threshold.proofs.lay.lay_cores.Given as goal
 
 abbrev pub invariant-loop-q : goal.invariant-loop-q

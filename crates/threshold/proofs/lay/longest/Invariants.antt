@@ -1,14 +1,9 @@
 -- `longest` ends at the longest module: it keeps the rules up to `end`, and either there is no next task or it breaks one with it.
-use mathlib.Core.Path.{◌≡◌, sym, ◌∙◌}
+use mathlib.Core.Path.{◌≡◌}
 use mathlib.Core.Bool.{true}
 use Prim.Native.Nat.{◌+◌, ◌-◌, ◌≤◌}
-use native.Mathlib.Omega.{arith}
-use borrow.Author.Rules.{rules}
-use borrow.Author.Tests.{not-true, not-false}
 use Rattle.modules.specs.Model.{chain_of}
 use Rattle.modules.specs.Rules.{shares, module_rules}
-use Rattle.modules.proofs.Laws.{shares_none, rules_none, rules_shares}
-use Rattle.threshold.proofs.Laying.{shares_next, kept_longer, longest_stops}
 use Rattle.threshold.proofs.lay.longest.Given as goal
 
 abbrev pub invariant-loop-end : goal.invariant-loop-end

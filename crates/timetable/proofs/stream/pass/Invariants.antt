@@ -1,4 +1,4 @@
--- `pass` is `pass` of the definitions: what is passed and what is left make the whole row, and no time outgrows 64 bits.
+-- `pass` is the `pass` of specs of the definitions: what is passed and what is left make the whole row, and no time outgrows 64 bits.
 use mathlib.Core.Path.{◌≡◌}
 use mathlib.Core.List.{◌++◌}
 use Prim.Native.Nat.{◌+◌, ◌*◌, ◌-◌, ◌≤◌}

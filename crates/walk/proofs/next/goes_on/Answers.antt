@@ -1,4 +1,4 @@
--- `goes_on` is `goes_on` by the room at the module's cores: what is not marked does not follow a module of a plan of the fewest cores; where the module is one of a plan of the fewest cores, the rest after it has a word,
+-- `goes_on` is the `goes_on` of specs by the room at the module's cores: what is not marked does not follow a module of a plan of the fewest cores; where the module is one of a plan of the fewest cores, the rest after it has a word,
 -- which is right, and its weight decides.
 use mathlib.Core.Path.{refl, sym, ◌∙◌}
 use borrow.Author.Rules.{rules}

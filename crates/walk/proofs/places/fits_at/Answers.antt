@@ -1,4 +1,4 @@
--- `fits_at` is `fits_at`: each test that fails denies one of the facts that the definition asks for, and where all others hold the last
+-- `fits_at` is the `fits_at` of specs: each test that fails denies one of the facts that the definition asks for, and where all others hold the last
 -- one decides. Response and threshold times small numbers fit.
 use mathlib.Core.Path.{sym}
 use Prim.Native.Nat.{◌*◌, ◌≤◌}

@@ -1,4 +1,4 @@
--- `price` is `price`: what the cores weigh, and the passage.
+-- `price` is the `price` of specs: what the cores weigh, and the passage.
 use native.Mathlib.Omega.{arith}
 use borrow.Author.Rules.{rules}
 use Rattle.records.proofs.Bounds.{product_of_bytes}

@@ -1,4 +1,4 @@
--- `room_of` is `room_of`: the tests are the definition's, and what cannot be taken off leaves nothing.
+-- `room_of` is the `room_of` of specs: the tests are the definition's, and what cannot be taken off leaves nothing.
 use native.Mathlib.Omega.{arith}
 use borrow.Author.Rules.{rules}
 use borrow.Author.Tests.{eq-eqb, ne_eqb}

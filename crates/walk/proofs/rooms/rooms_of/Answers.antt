@@ -13,10 +13,7 @@ use Rattle.modules.specs.Model.{Chain, chain_of}
 use Rattle.walk.specs.declared.rooms.Passed.{Passed}
 use Rattle.walk.specs.Walk.{room_of}
 use Rattle.walk.proofs.rooms.rooms_of.Goals as goal
-
--- the list holds the room for each number of cores below q
-abbrev Held : Chain → ℕ → Passed → List ℕ → ℕ → Type 0
-Held c n m w q = (j : ℕ) → j < q → get_or w j 0 ≡ room_of c n m j
+use Rattle.walk.proofs.rooms.rooms_of.Invariants.{Held}
 
 held_more : (c : Chain) (n : ℕ) (m : Passed) (w : List ℕ) (q v : ℕ) → q < length w → Held c n m w q → v ≡ room_of c n m q → Held c n m (set w q v) (q + 1)
 held_more c n m w q v long held e j h = ⊎_elim

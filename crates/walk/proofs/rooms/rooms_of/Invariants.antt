@@ -15,7 +15,7 @@ use Rattle.walk.specs.Walk.{room_of}
 use Rattle.walk.proofs.rooms.rooms_of.Given as goal
 
 -- the list holds the room for each number of cores below q
-abbrev Held : Chain → ℕ → Passed → List ℕ → ℕ → Type 0
+abbrev pub Held : Chain → ℕ → Passed → List ℕ → ℕ → Type 0
 Held c n m w q = (j : ℕ) → j < q → get_or w j 0 ≡ room_of c n m j
 
 abbrev pub invariant-loop-q : goal.invariant-loop-q

@@ -1,4 +1,4 @@
--- `over_copies` is `over_copies` by whatever the marked cells say: the fewest copies that may come are the cheapest, and the rest after them is marked.
+-- `over_copies` is the `over_copies` of specs by whatever the marked cells say: the fewest copies that may come are the cheapest, and the rest after them is marked.
 use Prim.Native.Nat.{◌+◌, ◌*◌, ◌≤◌, ◌<◌}
 use native.Mathlib.Nat.{mul-le-mul, eq-or-lt_of_le}
 use native.Mathlib.Omega.{arith}

@@ -1,4 +1,4 @@
--- `over_last` is `over_last` by whatever the marked cells say: the least so far over the last tasks, up to the last with which one copy keeps the rules.
+-- `over_last` is the `over_last` of specs by whatever the marked cells say: the least so far over the last tasks, up to the last with which one copy keeps the rules.
 use Prim.Native.Nat.{◌-◌, ◌≤◌}
 use native.Mathlib.Omega.{arith}
 use mathlib.Core.Path.{refl}

@@ -1,4 +1,4 @@
--- `over_next` is `over_next` by whatever the marked cells say: one step at the last task, else the least so far over the cores of the module after it,
+-- `over_next` is the `over_next` of specs by whatever the marked cells say: one step at the last task, else the least so far over the cores of the module after it,
 -- up to those that one copy leaves.
 use Prim.Native.Nat.{ℕ, ◌+◌, ◌-◌, ◌≤◌, ◌<◌}
 use native.Mathlib.Omega.{arith}
