@@ -1,10 +1,7 @@
 -- `end_all` ends one task: the modules of fewer cores than the loop's are pushed, and no others.
 use Prim.Native.Nat.{◌+◌, ◌-◌, ◌≤◌}
-use native.Mathlib.Nat.{le_refl}
-use native.Mathlib.Omega.{arith}
-use borrow.Author.Rules.{rules}
 use Rattle.modules.specs.Model.{chain_of}
-use Rattle.threshold.proofs.Ending.{Ended, ended_none, ended_row, ended_rest, ended_more, ended_all}
+use Rattle.threshold.proofs.Ending.{Ended}
 use Rattle.threshold.proofs.fill.end_all.Given as goal
 
 abbrev pub invariant-loop-q : goal.invariant-loop-q

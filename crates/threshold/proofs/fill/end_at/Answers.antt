@@ -5,7 +5,6 @@ use native.Mathlib.Omega.{arith}
 use mathlib.Core.Path.{◌≡◌, refl}
 use mathlib.Core.List.{List}
 use lib.ListN.{replicate, length-replicate}
-use borrow.Author.Rules.{rules}
 use Rattle.records.specs.declared.Board.{Board}
 use Rattle.modules.specs.Model.{Chain, chain_of, handed}
 use Rattle.slack.specs.Problem.{top_threshold}

@@ -1,13 +1,9 @@
 -- `fill` goes from the last task to the first: the table is right by modules that end after the loop's task.
 use Prim.Native.Nat.{◌≤◌}
-use native.Mathlib.Nat.{le_refl}
-use native.Mathlib.Omega.{arith}
-use mathlib.Core.Path.{◌≡◌, refl, ◌∙◌}
+use mathlib.Core.Path.{◌≡◌}
 use lib.ListN.{length}
-use borrow.Author.Rules.{rules}
 use Rattle.modules.specs.Model.{chain_of}
 use Rattle.threshold.specs.Words.{KeptBeyond, Laid, FilledAfter}
-use Rattle.threshold.proofs.Ending.{laid_words, cleared_after, filled_all}
 use Rattle.threshold.proofs.fill.fill.Given as goal
 
 abbrev pub invariant-loop-l : goal.invariant-loop-l

@@ -1,20 +1,16 @@
 -- `push` goes from the shortest module on: what is pushed so far is right for every chain whose words these are, and the first module that
 -- breaks a rule, or takes all that is left, ends it, since all longer ones do.
-use Prim.Native.Nat.{ℕ, ◌+◌, ◌-◌, ◌*◌, ◌≤◌}
+use Prim.Native.Nat.{ℕ, ◌+◌, ◌-◌, ◌≤◌}
 use native.Mathlib.Nat.{le_refl}
 use native.Mathlib.Omega.{arith}
 use mathlib.Core.Path.{◌≡◌, refl, sym, ◌∙◌}
 use mathlib.Core.Bool.{cond}
 use mathlib.Core.Logic.{⊎_elim}
-use lib.ListN.{length, get_or}
 use lib.Dec.{leb}
-use borrow.Author.Rules.{rules}
 use borrow.Author.Tests.{le-leb, lt-leb}
 use Rattle.records.proofs.Cases.{lt_or_le}
-use Rattle.modules.specs.Model.{Chain, body}
 use Rattle.slack.specs.Problem.{none}
-use Rattle.threshold.specs.Words.{Laid, Fixed, Pushed}
-use Rattle.threshold.proofs.Pushing.{word_reached, body_none, Spent, spent_row, spent_more, pushed_none, body_grown, pushed_more, pushed_stop, pushed_spent}
+use Rattle.threshold.proofs.Pushing.{word_reached, body_none, spent_row, spent_more, pushed_none, body_grown, pushed_more, pushed_stop, pushed_spent}
 use Rattle.threshold.proofs.fill.push.Goals as goal
 
 -- a capped body is no longer than the body
@@ -96,10 +92,10 @@ returns-then-cores-first c =
       o.invariant.0,
       λ k board inside some laid fixes.
           let i = o.invariant.6 k board inside some laid fixes in
-          let is_IsBody = body_grown k a.work.now _ _ a.l a.q a.fixed inside (omega arith) (omega arith) some (omega arith) laid fixes
+          let is_body = body_grown k a.work.now _ _ a.l a.q a.fixed inside (omega arith) (omega arith) some (omega arith) laid fixes
           o.work o.t (o.t - 1) (omega arith) i.1 (omega arith) o.own grown.result i.0 grown.ensures.0 in
           pushed_spent k a.work.now _ _ a.l a.q a.fixed inside (omega arith) (omega arith) some (omega arith) laid fixes
-          o.work o.t (o.t - 1) (omega arith) i.1 (omega arith) a.left.now grown.result served.result is_IsBody (λ b. refl) (λ b. refl) spent (omega arith),
+          o.work o.t (o.t - 1) (omega arith) i.1 (omega arith) a.left.now grown.result served.result is_body (λ b. refl) (λ b. refl) spent (omega arith),
     )
 
 pub overflow_cast-at : goal.overflow_cast-at
@@ -143,12 +139,12 @@ loop-t-preserved c =
       spent,
       λ k board inside some laid fixes.
           let i = o.invariant.6 k board inside some laid fixes in
-          let is_IsBody = body_grown k a.work.now _ _ a.l a.q a.fixed inside (omega arith) (omega arith) some (omega arith) laid fixes
+          let is_body = body_grown k a.work.now _ _ a.l a.q a.fixed inside (omega arith) (omega arith) some (omega arith) laid fixes
           o.work o.t (o.t - 1) next i.1 (omega (arith, next, o.invariant.1)) o.own grown.result i.0 grown.ensures.0 in (
-            is_IsBody,
+            is_body,
             pushed_more k a.work.now _ _ a.l a.q a.fixed inside (omega arith) (omega arith) some (omega arith) laid fixes
-                o.work o.t (o.t - 1) next i.1 (omega (arith, next, o.invariant.1)) raised.new.0 a.left.now grown.result _
-                (omega (arith, c.if-work-i.false)) is_IsBody rows (λ b. refl) (λ b. refl) served.result late
+                o.work o.t (o.t - 1) next i.1 (omega (arith, next, o.invariant.1)) raised.new.work a.left.now grown.result _
+                (omega (arith, c.if-work-i.false)) is_body rows (λ b. refl) (λ b. refl) served.result late
                 (spent_row a.left.now a.q a.fixed (o.t - 1) _ rows served.result grown.result spent) (rw board raised.ensures),
           ),
     )

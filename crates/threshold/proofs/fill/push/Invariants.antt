@@ -1,20 +1,11 @@
 -- `push` goes from the shortest module on: what is pushed so far is right for every chain whose words these are, and the first module that
 -- breaks a rule, or takes all that is left, ends it, since all longer ones do.
-use Prim.Native.Nat.{ℕ, ◌+◌, ◌-◌, ◌*◌, ◌≤◌}
-use native.Mathlib.Nat.{le_refl}
-use native.Mathlib.Omega.{arith}
-use mathlib.Core.Path.{◌≡◌, refl, sym, ◌∙◌}
-use mathlib.Core.Bool.{cond}
-use mathlib.Core.Logic.{⊎_elim}
+use Prim.Native.Nat.{◌+◌, ◌-◌, ◌*◌, ◌≤◌}
+use mathlib.Core.Path.{◌≡◌}
 use lib.ListN.{length, get_or}
-use lib.Dec.{leb}
-use borrow.Author.Rules.{rules}
-use borrow.Author.Tests.{le-leb, lt-leb}
-use Rattle.records.proofs.Cases.{lt_or_le}
 use Rattle.modules.specs.Model.{Chain, body}
-use Rattle.slack.specs.Problem.{none}
 use Rattle.threshold.specs.Words.{Laid, Fixed, Pushed}
-use Rattle.threshold.proofs.Pushing.{word_reached, body_none, Spent, spent_row, spent_more, pushed_none, body_grown, pushed_more, pushed_stop, pushed_spent}
+use Rattle.threshold.proofs.Pushing.{Spent}
 use Rattle.threshold.proofs.fill.push.Given as goal
 
 abbrev pub invariant-loop-t : goal.invariant-loop-t

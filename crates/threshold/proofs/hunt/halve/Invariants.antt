@@ -1,12 +1,10 @@
 -- `halve` keeps a bracket narrower than 2 to the tries that are left: at the end it has no width, and decides.
-use mathlib.Core.Path.{◌≡◌, refl, ◌∙◌}
+use mathlib.Core.Path.{◌≡◌}
 use Prim.Native.Nat.{◌+◌, ◌<◌}
-use native.Mathlib.Omega.{arith}
 use lib.ListN.{length}
 use Rattle.modules.specs.Model.{chain_of}
 use Rattle.threshold.specs.Words.{KeptBeyond, Laid}
 use Rattle.threshold.specs.Threshold.{Bracket, power}
-use Rattle.threshold.proofs.Hunting.{bracket_narrow, tried_half, width_none, bracket_decided}
 use Rattle.threshold.proofs.hunt.halve.Given as goal
 
 abbrev pub invariant-loop-left : goal.invariant-loop-left

@@ -1,12 +1,6 @@
 -- `jump` keeps a bracket at every try: its loop only counts them.
-use mathlib.Core.Path.{◌≡◌, refl, ◌∙◌}
-use Prim.Native.Nat.{◌-◌, ◌≤◌}
+use mathlib.Core.Path.{refl, ◌∙◌}
 use native.Mathlib.Omega.{arith}
-use lib.ListN.{length}
-use borrow.Author.Rules.{rules}
-use Rattle.modules.specs.Model.{chain_of}
-use Rattle.threshold.specs.Words.{KeptBeyond, Laid}
-use Rattle.threshold.specs.Threshold.{Bracket}
 use Rattle.threshold.proofs.hunt.jump.Goals as goal
 
 pub loop-i-init : goal.loop-i-init

@@ -1,8 +1,6 @@
 -- `least_threshold` refuses where there is no room; else the words are laid, the bracket starts with all thresholds, and halving decides it; the table of the answer is filled last.
 use mathlib.Core.Path.{refl, ◌∙◌}
 use native.Mathlib.Omega.{arith}
-use borrow.Author.Rules.{rules}
-use borrow.Author.Tests.{not-true, not-false}
 use Rattle.modules.specs.Model.{chain_of}
 use Rattle.threshold.proofs.Hunting.{bracket_start, searched_refused, searched_decided}
 use Rattle.threshold.proofs.hunt.least_threshold.Goals as goal
