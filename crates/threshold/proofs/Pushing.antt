@@ -135,7 +135,7 @@ module _ (c : Chain) (w₀ : List ℕ) (one any : ℕ → ℕ) (l q fixed : ℕ)
         d ∙ rw (x, y, e, next) (sym (body_front c (t + 1) l q (omega arith)))
 
     -- one module more, which keeps the rules
-    module _ (w' left : List ℕ) (own from : ℕ) (fits : l ≤ get_or w (reach_at t q) 0) (is_IsBody : own ≡ body c (t + 1) l q) (rows : from ≡ cond (leb fixed t) 33 0)
+    module _ (w' left : List ℕ) (own from : ℕ) (fits : l ≤ get_or w (reach_at t q) 0) (is_body : own ≡ body c (t + 1) l q) (rows : from ≡ cond (leb fixed t) 33 0)
         (is_one : (b : ℕ) → get_or left b 0 ≡ one b) (is_any : (b : ℕ) → get_or left (33 + b) 0 ≡ any b)
         (start : ℕ) (late : q ≤ start) (empty : (b : ℕ) → q ≤ b → b < start → get_or left (from + b) 0 ≤ own)
         (raised : Raised w w' (λ b. get_or left (from + b) 0) (t * 1089 + q * 33) own start c.board) where
@@ -149,11 +149,11 @@ module _ (c : Chain) (w₀ : List ℕ) (one any : ℕ → ℕ) (l q fixed : ℕ)
       leaves b = ⊎_elim
           (λ (a : leb fixed t ≡ true).
           let e : from ≡ 33 = rows ∙ rw a refl in
-          rw (e, is_any b, is_IsBody) (sym (ends_any (fits_on c) (replicable_on c) (body_on c) (λ l q b. one b) (λ l q b. any b) t q b l earlier keeps (fixes.exact t earlier ∙ a))))
+          rw (e, is_any b, is_body) (sym (ends_any (fits_on c) (replicable_on c) (body_on c) (λ l q b. one b) (λ l q b. any b) t q b l earlier keeps (fixes.exact t earlier ∙ a))))
           (λ (a : leb fixed t ≡ false).
           let e : from ≡ 0 = rows ∙ rw a refl in
           let z : 0 + b ≡ b = omega arith in
-          rw (e, z, is_one b, is_IsBody) (sym (ends_one (fits_on c) (replicable_on c) (body_on c) (λ l q b. one b) (λ l q b. any b) t q b l earlier keeps (fixes.exact t earlier ∙ a))))
+          rw (e, z, is_one b, is_body) (sym (ends_one (fits_on c) (replicable_on c) (body_on c) (λ l q b. one b) (λ l q b. any b) t q b l earlier keeps (fixes.exact t earlier ∙ a))))
           (true_or_false (leb fixed t))
 
       -- nothing is left below the cores from which on slacks are raised
@@ -213,12 +213,12 @@ module _ (c : Chain) (w₀ : List ℕ) (one any : ℕ → ℕ) (l q fixed : ℕ)
     -- the first whose body is all that is left with any cores: longer ones have no shorter bodies
     pub pushed_spent : (left : List ℕ) (own first : ℕ) → own ≡ body c (t + 1) l q → ((b : ℕ) → get_or left b 0 ≡ one b) → ((b : ℕ) → get_or left (33 + b) 0 ≡ any b)
         → Spent left q first own fixed t → c.board < first → Pushed c w₀ w one any 0 l q
-    pushed_spent left own first is_IsBody is_one is_any spent all = pushed_rest bare
+    pushed_spent left own first is_body is_one is_any spent all = pushed_rest bare
       where
         longer : (i : ℕ) → i ≤ t → own ≤ body c (i + 1) l q
         longer i d =
             let e : i + 1 + (t - i) ≡ t + 1 = omega arith in
-            omega (arith, is_IsBody, rw e at (body_drop c l q (i + 1) (t - i) (omega arith)))
+            omega (arith, is_body, rw e at (body_drop c l q (i + 1) (t - i) (omega arith)))
 
         bare : (i b : ℕ) → i ≤ t → q ≤ b → b ≤ c.board → ends i b ≡ 0
         bare i b d u v = ⊎_elim

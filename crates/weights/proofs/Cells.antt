@@ -14,7 +14,7 @@ use Rattle.records.proofs.Cases.{lt_or_le}
 use Rattle.modules.specs.Model.{Chain, response, transfer, handed}
 use Rattle.modules.specs.Rules.{module_rules}
 use Rattle.modules.proofs.Laws.{passage_parts, handed_none, handed_rises}
-use Rattle.search.specs.Least.{lesser, least}
+use Rattle.search.specs.Least.{lesser}
 use Rattle.search.specs.Copies.{load_of, fewest}
 use Rattle.search.specs.Plan.{cap}
 use Rattle.search.specs.Weight.{Table, over_copies}

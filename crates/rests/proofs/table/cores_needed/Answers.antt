@@ -1,12 +1,9 @@
 -- `cores_needed` finds the first number of cores: the word of no fewer is above what is received.
 use mathlib.Core.Path.{◌≡◌, refl}
 use mathlib.Core.Logic.{◌⊎◌, inl, inr, ⊎_elim}
-use Prim.Native.Nat.{ℕ, ◌+◌, ◌-◌, ◌≤◌, ◌<◌}
+use Prim.Native.Nat.{ℕ, ◌≤◌, ◌<◌}
 use native.Mathlib.Omega.{arith}
-use lib.ListN.{get_or}
 use Rattle.records.proofs.Cases.{lt_or_le}
-use Rattle.sketch.specs.Slacks.{slack_at}
-use borrow.Author.Rules.{rules}
 use Rattle.rests.proofs.table.cores_needed.Goals as goal
 
 -- with a board in range and enough words it is only q that may be out of range
@@ -26,7 +23,7 @@ pub bounds-work-at : goal.bounds-work-at
 bounds-work-at c = omega (arith, c.if-work-at.false, c.loop-b-test.true)
 
 pub returns-then-e-work : goal.returns-then-e-work
-returns-then-e-work c = 
+returns-then-e-work c =
     let o = c.loop-b in
     record {
       first = λ few sized long. record { low = o.invariant.0; high = o.invariant.1 few; serves = λ h. c.if-e-work.true; none_before = o.invariant.3 };
@@ -40,7 +37,7 @@ pub loop-b-smaller : goal.loop-b-smaller
 loop-b-smaller c = omega (arith, c.loop-b-test.true)
 
 pub loop-b-preserved : goal.loop-b-preserved
-loop-b-preserved c = 
+loop-b-preserved c =
     let o = c.loop-b in (
       omega arith,
       λ h. omega (arith, c.loop-b-test.true),
@@ -49,7 +46,7 @@ loop-b-preserved c =
     )
 
 pub returns : goal.returns
-returns c = 
+returns c =
     let o = c.loop-b in
     record {
       first = λ few sized long. record { low = o.invariant.0; high = o.invariant.1 few; serves = λ h. absurd (omega (arith, c.loop-b-test.false)); none_before = o.invariant.3 };

@@ -1,12 +1,8 @@
 -- `cores_needed` finds the first number of cores: the word of no fewer is above what is received.
-use mathlib.Core.Path.{◌≡◌, refl}
-use mathlib.Core.Logic.{◌⊎◌, inl, inr, ⊎_elim}
+use mathlib.Core.Path.{◌≡◌}
 use Prim.Native.Nat.{ℕ, ◌+◌, ◌-◌, ◌≤◌, ◌<◌}
-use native.Mathlib.Omega.{arith}
 use lib.ListN.{get_or}
-use Rattle.records.proofs.Cases.{lt_or_le}
 use Rattle.sketch.specs.Slacks.{slack_at}
-use borrow.Author.Rules.{rules}
 use Rattle.rests.proofs.table.cores_needed.Given as goal
 
 abbrev pub invariant-loop-b : goal.invariant-loop-b

@@ -1,10 +1,5 @@
 -- `fewest_cores` finds the fewest: no fewer leave a slack.
-use mathlib.Core.Path.{◌≡◌, refl}
-use mathlib.Core.Logic.{⊎_elim}
-use Rattle.records.proofs.Cases.{lt_or_le}
 use Prim.Native.Nat.{ℕ, ◌+◌, ◌-◌, ◌≤◌, ◌<◌}
-use native.Mathlib.Omega.{arith}
-use borrow.Author.Rules.{rules}
 use Rattle.sketch.specs.Slacks.{Slacked}
 use Rattle.rests.proofs.table.fewest_cores.Given as goal
 

@@ -3,11 +3,10 @@ use mathlib.Core.Path.{refl}
 use native.Mathlib.Omega.{arith}
 use Rattle.modules.specs.Model.{chain_of}
 use Rattle.rests.proofs.Fewest.{needed_is}
-use borrow.Author.Rules.{rules}
 use Rattle.weights.proofs.after.rest_after.Goals as goal
 
 pub returns : goal.returns
-returns c = 
+returns c =
     let a = c.args in
     let room = c.requires.0 in (
       refl,

@@ -1,7 +1,6 @@
 -- `lightest_plans` weighs at the least threshold: where some plan is within it there was room, and its table stands; else nothing is weighed.
 use mathlib.Core.Path.{refl, ◌∙◌}
 use native.Mathlib.Omega.{arith}
-use borrow.Author.Rules.{rules}
 use Rattle.modules.specs.Model.{chain_of}
 use Rattle.rests.proofs.Fewest.{fewest_found}
 use Rattle.weights.proofs.Beginning.{fewest_board}
@@ -11,7 +10,7 @@ pub shape_of-work-then-n-gt-TOP : goal.shape_of-work-then-n-gt-TOP
 shape_of-work-then-n-gt-TOP c = c.least_threshold-n.ensures.long
 
 pub returns-then-n-gt-TOP : goal.returns-then-n-gt-TOP
-returns-then-n-gt-TOP c = 
+returns-then-n-gt-TOP c =
     let s = c.least_threshold-n.ensures in
     record {
       long = s.long;
@@ -24,7 +23,7 @@ returns-then-n-gt-TOP c =
     }
 
 pub weight_within-weight-requires : goal.weight_within-weight-requires
-weight_within-weight-requires c = 
+weight_within-weight-requires c =
     let a = c.args in
     let k = chain_of a.costs.now a.board in
     let n = c.least_threshold-n in
@@ -39,7 +38,7 @@ pub shape_of-work : goal.shape_of-work
 shape_of-work c = c.weight_within-weight.ensures.1 ∙ c.least_threshold-n.ensures.long
 
 pub returns : goal.returns
-returns c = 
+returns c =
     let a = c.args in
     let k = chain_of a.costs.now a.board in
     let n = c.least_threshold-n in

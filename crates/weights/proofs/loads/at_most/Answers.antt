@@ -2,7 +2,6 @@
 use mathlib.Core.Path.{sym}
 use native.Mathlib.Omega.{arith}
 use Rattle.search.proofs.Least.{lesser_low, lesser_high}
-use borrow.Author.Rules.{rules}
 use Rattle.weights.proofs.loads.at_most.Goals as goal
 
 pub returns-then-a-b : goal.returns-then-a-b

@@ -5,7 +5,6 @@ use native.Mathlib.Nat.{le_refl, mul-le-mul}
 use native.Mathlib.Omega.{arith}
 use mathlib.Core.Path.{◌≡◌, refl, sym, ap, subst, ◌∙◌}
 use lib.Dec.{T}
-use borrow.Author.Tests.{not-true}
 use Rattle.modules.specs.Model.{chain_of}
 use Rattle.search.proofs.Sparing.{need_most, sparing_i}
 use Rattle.slack.specs.Problem.{problem, enough_on, need_on}
@@ -13,17 +12,16 @@ use Rattle.rests.specs.Words.{served_in}
 use Rattle.rests.proofs.Fewest.{served_is}
 use Rattle.weights.proofs.Fitting.{reached_inside, spares_facts}
 use Rattle.weights.proofs.Cells.{fewest_fits, copies_none, copies_some, copies_unserved}
-use borrow.Author.Rules.{rules}
 use Rattle.weights.proofs.loads.copies_to.Goals as goal
 
 pub returns-then-not-served_in : goal.returns-then-not-served_in
-returns-then-not-served_in c = 
+returns-then-not-served_in c =
     let a = c.args in
     let k = chain_of a.costs.now a.board in
     copies_unserved k a.n a.x.before a.x.from a.x.cores a.l a.q2 (a.x.left - a.x.cores) (ap (λ (v : ℕ). v - a.x.cores) c.requires.1.left) (c.served_in.ensures ∙ served_is k a.n a.board a.work.now a.l a.q2 (a.x.left - a.x.cores) 0 refl c.requires.0.slacks (reached_inside c.requires.4.reached) (omega (arith, c.requires.1.left, need_most a.board.cores (enough_on k a.n) a.x.before a.x.from a.x.cores, c.requires.1.one_core))) (c.if-not-served_in.true)
 
 pub returns-then-r-lt1 : goal.returns-then-r-lt1
-returns-then-r-lt1 c = 
+returns-then-r-lt1 c =
     let a = c.args in
     let k = chain_of a.costs.now a.board in
     let z = c.transfer-sent.ensures in
@@ -32,7 +30,7 @@ returns-then-r-lt1 c =
     copies_none c.requires.4 a.n a.q2 z e c.requires.1.one_core (λ u. let f = spares_facts k a.n a.x.before a.x.from a.l r a.x.cores a.q2 u in omega (arith, f.fits.one_copy, c.if-r-lt1.true))
 
 pub returns-then-board-r : goal.returns-then-board-r
-returns-then-board-r c = 
+returns-then-board-r c =
     let a = c.args in
     let k = chain_of a.costs.now a.board in
     let z = c.transfer-sent.ensures in
@@ -50,7 +48,7 @@ pub overflow_add-x : goal.overflow_add-x
 overflow_add-x c = omega (arith, overflow_add-x-2 c)
 
 pub returns-then-board-x : goal.returns-then-board-x
-returns-then-board-x c = 
+returns-then-board-x c =
     let a = c.args in
     let k = chain_of a.costs.now a.board in
     let z = c.transfer-sent.ensures in
@@ -59,7 +57,7 @@ returns-then-board-x c =
     copies_none c.requires.4 a.n a.q2 z e c.requires.1.one_core (λ u. let f = spares_facts k a.n a.x.before a.x.from a.l r a.x.cores a.q2 u in omega (arith, f.fits.room, c.if-board-x.true))
 
 pub returns-then-x-used : goal.returns-then-x-used
-returns-then-x-used c = 
+returns-then-x-used c =
     let a = c.args in
     let k = chain_of a.costs.now a.board in
     let z = c.transfer-sent.ensures in
@@ -68,7 +66,7 @@ returns-then-x-used c =
     copies_none c.requires.4 a.n a.q2 z e c.requires.1.one_core (λ u. let f = spares_facts k a.n a.x.before a.x.from a.l r a.x.cores a.q2 u in omega (arith, f.few, c.requires.1.left, c.if-x-used.true))
 
 pub returns-then-served_in : goal.returns-then-served_in
-returns-then-served_in c = 
+returns-then-served_in c =
     let a = c.args in
     let k = chain_of a.costs.now a.board in
     let z = c.transfer-sent.ensures in
@@ -86,7 +84,7 @@ returns-then-served_in c =
     (omega (arith, c.if-x-used.false, c.requires.1.left)) (subst T (sym c.if-served_in.true ∙ here ∙ is) tt))
 
 pub returns : goal.returns
-returns c = 
+returns c =
     let a = c.args in
     let k = chain_of a.costs.now a.board in
     let z = c.transfer-sent.ensures in

@@ -1,7 +1,6 @@
 -- `fewest_copies` is `fewest`: one copy is enough, or a division says how many are, or none are.
 use mathlib.Core.Path.{sym}
 use native.Mathlib.Omega.{arith}
-use borrow.Author.Rules.{rules}
 use Rattle.rounding.specs.Rounding.{rounded_up}
 use Rattle.search.proofs.Copies.{fewest_one, fewest_more, fewest_none}
 use Rattle.weights.proofs.loads.fewest_copies.Goals as goal

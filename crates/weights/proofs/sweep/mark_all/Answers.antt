@@ -1,12 +1,8 @@
 -- `mark_all` closes one row after the other.
-use Prim.Native.Nat.{◌+◌, ◌-◌, ◌≤◌}
-use lib.ListN.{length}
+use Prim.Native.Nat.{◌+◌, ◌-◌}
 use native.Mathlib.Omega.{arith}
 use mathlib.Core.Path.{◌≡◌, refl, ◌∙◌}
 use Rattle.modules.specs.Model.{chain_of}
-use Rattle.threshold.specs.Words.{KeptBeyond}
-use Rattle.weights.specs.Places.{Tabled}
-use Rattle.weights.specs.Cells.{ClosedTo}
 use Rattle.weights.proofs.Sweeping.{swept_tabled, swept_beyond, swept_closed, closed_all}
 use Rattle.weights.proofs.sweep.mark_all.Goals as goal
 
@@ -14,7 +10,7 @@ pub loop-t-init : goal.loop-t-init
 loop-t-init c = (omega arith, c.requires.0.area.sized.some_tasks, refl, c.requires.0, c.requires.1, λ j h. refl)
 
 pub weigh_row-requires : goal.weigh_row-requires
-weigh_row-requires c = 
+weigh_row-requires c =
     let a = c.args in
     let k = chain_of a.costs.now a.board in
     let o = c.loop-t in
@@ -27,7 +23,7 @@ pub loop-t-smaller : goal.loop-t-smaller
 loop-t-smaller c = omega (arith, c.loop-t-test.true)
 
 pub loop-t-preserved : goal.loop-t-preserved
-loop-t-preserved c = 
+loop-t-preserved c =
     let a = c.args in
     let k = chain_of a.costs.now a.board in
     let o = c.loop-t in
@@ -39,7 +35,7 @@ pub shape_of-work : goal.shape_of-work
 shape_of-work c = c.loop-t.invariant.2
 
 pub returns : goal.returns
-returns c = 
+returns c =
     let a = c.args in
     let k = chain_of a.costs.now a.board in
     let o = c.loop-t in

@@ -1,13 +1,11 @@
 -- `mark_all` closes one row after the other.
-use Prim.Native.Nat.{◌+◌, ◌-◌, ◌≤◌}
+use Prim.Native.Nat.{◌-◌, ◌≤◌}
 use lib.ListN.{length}
-use native.Mathlib.Omega.{arith}
-use mathlib.Core.Path.{◌≡◌, refl, ◌∙◌}
+use mathlib.Core.Path.{◌≡◌}
 use Rattle.modules.specs.Model.{chain_of}
 use Rattle.threshold.specs.Words.{KeptBeyond}
 use Rattle.weights.specs.Places.{Tabled}
 use Rattle.weights.specs.Cells.{ClosedTo}
-use Rattle.weights.proofs.Sweeping.{swept_tabled, swept_beyond, swept_closed, closed_all}
 use Rattle.weights.proofs.sweep.mark_all.Given as goal
 
 abbrev pub invariant-loop-t : goal.invariant-loop-t

@@ -1,12 +1,10 @@
 -- `weigh_after` weighs the cells one after the other; those of more cores are not on the board.
-use Prim.Native.Nat.{◌+◌, ◌-◌, ◌≤◌, ◌<◌}
+use Prim.Native.Nat.{◌≤◌, ◌<◌}
 use mathlib.Core.Logic.{inl, inr, ⊎_elim}
 use native.Mathlib.Omega.{arith}
 use mathlib.Core.Path.{◌≡◌, refl}
 use Rattle.modules.specs.Model.{chain_of}
 use Rattle.records.proofs.Cases.{lt_or_le}
-use Rattle.weights.specs.Places.{Tabled}
-use Rattle.weights.specs.Cells.{Swept}
 use Rattle.weights.proofs.Sweeping.{swept_none, swept_as, swept_more, swept_tabled}
 use Rattle.weights.proofs.sweep.weigh_after.Goals as goal
 
@@ -14,13 +12,13 @@ pub overflow_sub-end : goal.overflow_sub-end
 overflow_sub-end c = c.requires.4
 
 pub loop-q-init : goal.loop-q-init
-loop-q-init c = 
+loop-q-init c =
     let a = c.args in
     let k = chain_of a.costs.now a.board in
     (omega arith, omega arith, c.requires.0, swept_none k a.n c.requires.0.area.sized.tasks_most c.requires.0.area.sized.cores_most a.t a.work.now (λ i j. (i ≡ a.s) × (j < 1)) (λ i j h d. omega (arith, h.1, d.first)))
 
 pub weigh_cell-requires : goal.weigh_cell-requires
-weigh_cell-requires c = 
+weigh_cell-requires c =
     let a = c.args in
     let k = chain_of a.costs.now a.board in
     let o = c.loop-q in
@@ -33,7 +31,7 @@ pub loop-q-smaller : goal.loop-q-smaller
 loop-q-smaller c = omega (arith, c.loop-q-test.true)
 
 pub loop-q-preserved : goal.loop-q-preserved
-loop-q-preserved c = 
+loop-q-preserved c =
     let a = c.args in
     let k = chain_of a.costs.now a.board in
     let o = c.loop-q in
@@ -49,7 +47,7 @@ pub shape_of-work : goal.shape_of-work
 shape_of-work c = c.loop-q.invariant.3.long
 
 pub returns : goal.returns
-returns c = 
+returns c =
     let a = c.args in
     let k = chain_of a.costs.now a.board in
     let o = c.loop-q in

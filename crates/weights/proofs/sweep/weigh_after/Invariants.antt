@@ -1,13 +1,9 @@
 -- `weigh_after` weighs the cells one after the other; those of more cores are not on the board.
 use Prim.Native.Nat.{◌+◌, ◌-◌, ◌≤◌, ◌<◌}
-use mathlib.Core.Logic.{inl, inr, ⊎_elim}
-use native.Mathlib.Omega.{arith}
-use mathlib.Core.Path.{◌≡◌, refl}
+use mathlib.Core.Path.{◌≡◌}
 use Rattle.modules.specs.Model.{chain_of}
-use Rattle.records.proofs.Cases.{lt_or_le}
 use Rattle.weights.specs.Places.{Tabled}
 use Rattle.weights.specs.Cells.{Swept}
-use Rattle.weights.proofs.Sweeping.{swept_none, swept_as, swept_more, swept_tabled}
 use Rattle.weights.proofs.sweep.weigh_after.Given as goal
 
 abbrev pub invariant-loop-q : goal.invariant-loop-q

@@ -1,12 +1,9 @@
 -- `weigh_all` weighs one row after the other, each by those after it, which are right.
-use Prim.Native.Nat.{ℕ, ◌-◌, ◌<◌}
-use lib.ListN.{length}
+use Prim.Native.Nat.{ℕ, ◌-◌}
 use native.Mathlib.Omega.{arith}
 use mathlib.Core.Path.{◌≡◌, refl, subst, ◌∙◌}
 use Rattle.modules.specs.Model.{chain_of}
-use Rattle.threshold.specs.Words.{KeptBeyond}
-use Rattle.weights.specs.Places.{Tabled}
-use Rattle.weights.specs.Cells.{ClosedTo, Reads, weight_on}
+use Rattle.weights.specs.Cells.{Reads, weight_on}
 use Rattle.weights.proofs.Sweeping.{swept_tabled, swept_beyond, swept_shut, swept_right, reads_end}
 use Rattle.weights.proofs.sweep.weigh_all.Goals as goal
 
@@ -14,13 +11,13 @@ pub overflow_sub-t : goal.overflow_sub-t
 overflow_sub-t c = c.requires.0.area.sized.some_tasks
 
 pub loop-t-init : goal.loop-t-init
-loop-t-init c = 
+loop-t-init c =
     let a = c.args in
     let k = chain_of a.costs.now a.board in
     (omega (arith, c.requires.0.area.sized.some_tasks), refl, c.requires.0, c.requires.1, reads_end k a.n c.requires.0.area.sized.tasks_most c.requires.0.area.sized.cores_most a.work.now (a.board.tasks - 1) (omega arith), λ j h. refl)
 
 pub weigh_row-requires : goal.weigh_row-requires
-weigh_row-requires c = 
+weigh_row-requires c =
     let a = c.args in
     let k = chain_of a.costs.now a.board in
     let o = c.loop-t in
@@ -33,7 +30,7 @@ pub loop-t-smaller : goal.loop-t-smaller
 loop-t-smaller c = omega (arith, c.loop-t-test.true)
 
 pub loop-t-preserved : goal.loop-t-preserved
-loop-t-preserved c = 
+loop-t-preserved c =
     let a = c.args in
     let k = chain_of a.costs.now a.board in
     let o = c.loop-t in
@@ -50,7 +47,7 @@ pub shape_of-work : goal.shape_of-work
 shape_of-work c = c.loop-t.invariant.1
 
 pub returns : goal.returns
-returns c = 
+returns c =
     let a = c.args in
     let k = chain_of a.costs.now a.board in
     let o = c.loop-t in

@@ -1,13 +1,11 @@
 -- `weigh_all` weighs one row after the other, each by those after it, which are right.
-use Prim.Native.Nat.{ℕ, ◌-◌, ◌<◌}
+use Prim.Native.Nat.{◌<◌}
 use lib.ListN.{length}
-use native.Mathlib.Omega.{arith}
-use mathlib.Core.Path.{◌≡◌, refl, subst, ◌∙◌}
+use mathlib.Core.Path.{◌≡◌}
 use Rattle.modules.specs.Model.{chain_of}
 use Rattle.threshold.specs.Words.{KeptBeyond}
 use Rattle.weights.specs.Places.{Tabled}
 use Rattle.weights.specs.Cells.{ClosedTo, Reads, weight_on}
-use Rattle.weights.proofs.Sweeping.{swept_tabled, swept_beyond, swept_shut, swept_right, reads_end}
 use Rattle.weights.proofs.sweep.weigh_all.Given as goal
 
 abbrev pub invariant-loop-t : goal.invariant-loop-t

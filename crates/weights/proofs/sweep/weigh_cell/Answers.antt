@@ -4,26 +4,25 @@ use native.Mathlib.Omega.{arith}
 use mathlib.Core.Path.{◌≡◌}
 use Rattle.modules.specs.Model.{chain_of}
 use Rattle.weights.proofs.Sweeping.{swept_unmarked, swept_rest}
-use borrow.Author.Rules.{rules}
 use Rattle.weights.proofs.sweep.weigh_cell.Goals as goal
 
 some_word : {v : ℕ} → (v ≡ 0 → ⊥) → 1 ≤ v
 some_word h = omega arith
 
 pub returns-then-work-i-eq0 : goal.returns-then-work-i-eq0
-returns-then-work-i-eq0 c = 
+returns-then-work-i-eq0 c =
     let a = c.args in
     let k = chain_of a.costs.now a.board in
     swept_unmarked k a.n c.requires.0.area.sized.tasks_most c.requires.0.area.sized.cores_most a.s a.t a.q c.requires.1 a.work.now (rw c.cell_of-i.ensures at c.if-work-i-eq0.true)
 
 pub over_last-v-requires : goal.over_last-v-requires
-over_last-v-requires c = 
+over_last-v-requires c =
     let a = c.args in
     let k = chain_of a.costs.now a.board in
     (c.requires.0, c.rest_after-x.ensures.3 a.n c.requires.0.slacks)
 
 pub returns : goal.returns
-returns c = 
+returns c =
     let a = c.args in
     let k = chain_of a.costs.now a.board in
     let x = c.rest_after-x in

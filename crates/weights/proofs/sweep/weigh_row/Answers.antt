@@ -1,23 +1,21 @@
 -- `weigh_row` weighs the cells after modules of all cores but the board's, after which none has room.
-use Prim.Native.Nat.{◌-◌, ◌≤◌, ◌<◌}
+use Prim.Native.Nat.{◌≤◌, ◌<◌}
 use mathlib.Core.Logic.{inl, inr, ⊎_elim}
 use native.Mathlib.Omega.{arith}
 use mathlib.Core.Path.{refl}
 use Rattle.modules.specs.Model.{chain_of}
 use Rattle.records.proofs.Cases.{lt_or_le}
-use Rattle.weights.specs.Places.{Tabled}
-use Rattle.weights.specs.Cells.{Swept}
 use Rattle.weights.proofs.Sweeping.{swept_none, swept_as, swept_more, swept_tabled}
 use Rattle.weights.proofs.sweep.weigh_row.Goals as goal
 
 pub loop-s-init : goal.loop-s-init
-loop-s-init c = 
+loop-s-init c =
     let a = c.args in
     let k = chain_of a.costs.now a.board in
     (omega arith, c.requires.0.area.sized.one_core, c.requires.0, swept_none k a.n c.requires.0.area.sized.tasks_most c.requires.0.area.sized.cores_most a.t a.work.now (λ i j. i < 1) (λ i j h d. omega (arith, d.before)))
 
 pub weigh_after-requires : goal.weigh_after-requires
-weigh_after-requires c = 
+weigh_after-requires c =
     let a = c.args in
     let k = chain_of a.costs.now a.board in
     let o = c.loop-s in
@@ -30,7 +28,7 @@ pub loop-s-smaller : goal.loop-s-smaller
 loop-s-smaller c = omega (arith, c.loop-s-test.true)
 
 pub loop-s-preserved : goal.loop-s-preserved
-loop-s-preserved c = 
+loop-s-preserved c =
     let a = c.args in
     let k = chain_of a.costs.now a.board in
     let o = c.loop-s in
@@ -46,7 +44,7 @@ pub shape_of-work : goal.shape_of-work
 shape_of-work c = c.loop-s.invariant.3.long
 
 pub returns : goal.returns
-returns c = 
+returns c =
     let a = c.args in
     let k = chain_of a.costs.now a.board in
     let o = c.loop-s in

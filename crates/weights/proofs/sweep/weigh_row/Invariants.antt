@@ -1,13 +1,8 @@
 -- `weigh_row` weighs the cells after modules of all cores but the board's, after which none has room.
 use Prim.Native.Nat.{◌-◌, ◌≤◌, ◌<◌}
-use mathlib.Core.Logic.{inl, inr, ⊎_elim}
-use native.Mathlib.Omega.{arith}
-use mathlib.Core.Path.{refl}
 use Rattle.modules.specs.Model.{chain_of}
-use Rattle.records.proofs.Cases.{lt_or_le}
 use Rattle.weights.specs.Places.{Tabled}
 use Rattle.weights.specs.Cells.{Swept}
-use Rattle.weights.proofs.Sweeping.{swept_none, swept_as, swept_more, swept_tabled}
 use Rattle.weights.proofs.sweep.weigh_row.Given as goal
 
 abbrev pub invariant-loop-s : goal.invariant-loop-s

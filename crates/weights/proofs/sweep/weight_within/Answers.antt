@@ -10,14 +10,14 @@ pub least_weight-requires : goal.least_weight-requires
 least_weight-requires c = (c.requires.0, c.requires.1, c.requires.2)
 
 pub mark_all-requires : goal.mark_all-requires
-mark_all-requires c = 
+mark_all-requires c =
     let a = c.args in
     let k = chain_of a.costs.now a.board in
     let b = c.least_weight.ensures in
     (begun_tabled k a.n a.board b refl refl c.requires.0, closed_start k a.n c.requires.0.area.sized.tasks_most c.requires.0.area.sized.cores_most _ (λ q low high. b.closed q low (omega arith)))
 
 pub weigh_all-requires : goal.weigh_all-requires
-weigh_all-requires c = 
+weigh_all-requires c =
     let m = c.mark_all.ensures in
     (m.1, m.2)
 
@@ -28,7 +28,7 @@ pub shape_of-work : goal.shape_of-work
 shape_of-work c = c.least_weight-2.ensures.long ∙ c.weigh_all.ensures.0 ∙ c.mark_all.ensures.0 ∙ c.least_weight.ensures.long
 
 pub returns : goal.returns
-returns c = 
+returns c =
     let a = c.args in
     let k = chain_of a.costs.now a.board in
     let b = c.least_weight-2.ensures in

@@ -1,10 +1,7 @@
 -- `least_weight` is the least over the first modules: those of more than the fewest cores add nothing.
-use Prim.Native.Nat.{◌+◌, ◌-◌, ◌≤◌}
 use native.Mathlib.Omega.{arith}
 use mathlib.Core.Path.{refl}
-use borrow.Author.Rules.{rules}
 use Rattle.modules.specs.Model.{chain_of}
-use Rattle.weights.specs.Cells.{Begun}
 use Rattle.weights.proofs.Beginning.{begun_start, begun_tabled, begun_next, begun_end}
 use Rattle.weights.proofs.weigh.least_weight.Goals as goal
 
@@ -12,13 +9,13 @@ pub no_plan-m-requires : goal.no_plan-m-requires
 no_plan-m-requires c = c.requires.0.area.sized.cores_most
 
 pub loop-q-init : goal.loop-q-init
-loop-q-init c = 
+loop-q-init c =
     let a = c.args in
     let k = chain_of a.costs.now a.board in
     (omega arith, omega arith, begun_start k a.n a.work.now c.no_plan-m.ensures.0)
 
 pub start_weight-v-requires : goal.start_weight-v-requires
-start_weight-v-requires c = 
+start_weight-v-requires c =
     let a = c.args in
     let k = chain_of a.costs.now a.board in
     let o = c.loop-q in
@@ -31,7 +28,7 @@ pub loop-q-smaller : goal.loop-q-smaller
 loop-q-smaller c = omega (arith, c.loop-q-test.true)
 
 pub loop-q-preserved : goal.loop-q-preserved
-loop-q-preserved c = 
+loop-q-preserved c =
     let a = c.args in
     let k = chain_of a.costs.now a.board in
     let o = c.loop-q in
@@ -41,7 +38,7 @@ pub shape_of-work : goal.shape_of-work
 shape_of-work c = c.loop-q.invariant.2.long
 
 pub returns : goal.returns
-returns c = 
+returns c =
     let a = c.args in
     let k = chain_of a.costs.now a.board in
     let o = c.loop-q in

@@ -1,11 +1,7 @@
 -- `least_weight` is the least over the first modules: those of more than the fewest cores add nothing.
 use Prim.Native.Nat.{◌+◌, ◌-◌, ◌≤◌}
-use native.Mathlib.Omega.{arith}
-use mathlib.Core.Path.{refl}
-use borrow.Author.Rules.{rules}
 use Rattle.modules.specs.Model.{chain_of}
 use Rattle.weights.specs.Cells.{Begun}
-use Rattle.weights.proofs.Beginning.{begun_start, begun_tabled, begun_next, begun_end}
 use Rattle.weights.proofs.weigh.least_weight.Given as goal
 
 abbrev pub invariant-loop-q : goal.invariant-loop-q

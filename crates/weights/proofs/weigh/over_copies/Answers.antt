@@ -11,11 +11,10 @@ use Rattle.weights.specs.Cells.{no_plan}
 use Rattle.weights.proofs.Fitting.{reached_inside, spares_facts}
 use Rattle.weights.proofs.Cells.{small_paid, priced}
 use Rattle.weights.proofs.Looking.{looked_unfit, looked_end, looked_mark}
-use borrow.Author.Rules.{rules}
 use Rattle.weights.proofs.weigh.over_copies.Goals as goal
 
 pub returns-then-r-lt1 : goal.returns-then-r-lt1
-returns-then-r-lt1 c = 
+returns-then-r-lt1 c =
     let a = c.args in
     looked_unfit (chain_of a.costs.now a.board) a.n a.x.before a.x.from a.x.cores c.requires.4 a.q2 refl c.copies_to-r.ensures a.work.now c.no_plan-none.ensures.0 c.if-r-lt1.true
 
@@ -32,7 +31,7 @@ pub overflow_add-own : goal.overflow_add-own
 overflow_add-own c = omega (arith, c.requires.4.taken, c.requires.4.low, c.requires.4.little, small_paid c.args.out c.copies_to-r.result c.paid.ensures, mul-le-mul {n₁ = c.copies_to-r.result} {m₁ = c.args.x.cores} {n₂ = 32} {m₂ = 32} (omega (arith, c.copies_to-r.ensures.few, c.requires.0.area.sized.cores_most)) (omega (arith, c.requires.1.room, c.requires.0.area.sized.cores_most)))
 
 pub weight_after-rest-requires : goal.weight_after-rest-requires
-weight_after-rest-requires c = 
+weight_after-rest-requires c =
     let a = c.args in
     let k = chain_of a.costs.now a.board in
     let r = c.copies_to-r in
@@ -43,7 +42,7 @@ pub overflow_add-own-2 : goal.overflow_add-own-2
 overflow_add-own-2 c = omega (arith, c.requires.4.taken, c.requires.4.low, c.requires.4.little, small_paid c.args.out c.copies_to-r.result c.paid.ensures, mul-le-mul {n₁ = c.copies_to-r.result} {m₁ = c.args.x.cores} {n₂ = 32} {m₂ = 32} (omega (arith, c.copies_to-r.ensures.few, c.requires.0.area.sized.cores_most)) (omega (arith, c.requires.1.room, c.requires.0.area.sized.cores_most)))
 
 pub returns : goal.returns
-returns c = 
+returns c =
     let a = c.args in
     let k = chain_of a.costs.now a.board in
     let x = a.x in

@@ -1,17 +1,15 @@
 -- `over_last` is the `over_last` of specs by whatever the marked cells say: the least so far over the last tasks, up to the last with which one copy keeps the rules.
-use Prim.Native.Nat.{◌-◌, ◌≤◌}
 use native.Mathlib.Omega.{arith}
 use mathlib.Core.Path.{refl}
-use borrow.Author.Rules.{rules}
 use Rattle.modules.specs.Model.{chain_of}
-use Rattle.weights.proofs.Lengthening.{Lengthened, reach_range, lengthened_start, lengthened_tabled, lengthened_reached, lengthened_loaded, lengthened_next, lengthened_end, looked_nothing, spares_few}
+use Rattle.weights.proofs.Lengthening.{reach_range, lengthened_start, lengthened_tabled, lengthened_reached, lengthened_loaded, lengthened_next, lengthened_end, looked_nothing, spares_few}
 use Rattle.weights.proofs.weigh.over_last.Goals as goal
 
 pub no_plan-m-requires : goal.no_plan-m-requires
 no_plan-m-requires c = omega (arith, c.requires.0.area.sized.cores_most)
 
 pub returns-then-x : goal.returns-then-x
-returns-then-x c = 
+returns-then-x c =
     let a = c.args in
     let k = chain_of a.costs.now a.board in
     looked_nothing k a.board a.n a.x a.work.now refl refl c.requires.0 c.requires.1 c.no_plan-m.ensures.0 (spares_few k a.board a.n a.x a.work.now refl refl c.requires.0 c.requires.1 c.if-x.true)
@@ -32,13 +30,13 @@ pub bounds-work-i : goal.bounds-work-i
 bounds-work-i c = omega (arith, c.requires.1.inside, c.requires.1.room, c.requires.0.area.sized.tasks_most, c.requires.0.area.sized.cores_most, c.requires.0.area.long)
 
 pub loop-l-init : goal.loop-l-init
-loop-l-init c = 
+loop-l-init c =
     let a = c.args in
     let k = chain_of a.costs.now a.board in
     (omega (arith, c.requires.1.inside, c.requires.0.area.sized.tasks_most), lengthened_start k a.board a.n a.x a.work.now refl refl c.requires.0 c.requires.1 c.no_plan-m.ensures.0)
 
 pub longer-stay-requires : goal.longer-stay-requires
-longer-stay-requires c = 
+longer-stay-requires c =
     let a = c.args in
     let k = chain_of a.costs.now a.board in
     let o = c.loop-l in
@@ -53,7 +51,7 @@ pub overflow_add-base : goal.overflow_add-base
 overflow_add-base c = omega (arith, c.loop-l.invariant.0, c.loop-l.invariant.1.small, c.longer-stay.ensures.1)
 
 pub over_next-v-requires : goal.over_next-v-requires
-over_next-v-requires c = 
+over_next-v-requires c =
     let a = c.args in
     let k = chain_of a.costs.now a.board in
     let o = c.loop-l in
@@ -68,7 +66,7 @@ pub loop-l-smaller : goal.loop-l-smaller
 loop-l-smaller c = omega (arith, c.loop-l-test.true)
 
 pub loop-l-preserved : goal.loop-l-preserved
-loop-l-preserved c = 
+loop-l-preserved c =
     let a = c.args in
     let k = chain_of a.costs.now a.board in
     let o = c.loop-l in
@@ -81,7 +79,7 @@ pub shape_of-work : goal.shape_of-work
 shape_of-work c = c.loop-l.invariant.1.looked.long
 
 pub returns : goal.returns
-returns c = 
+returns c =
     let a = c.args in
     let k = chain_of a.costs.now a.board in
     let o = c.loop-l in

@@ -1,10 +1,7 @@
 -- `over_last` is the `over_last` of specs by whatever the marked cells say: the least so far over the last tasks, up to the last with which one copy keeps the rules.
 use Prim.Native.Nat.{◌-◌, ◌≤◌}
-use native.Mathlib.Omega.{arith}
-use mathlib.Core.Path.{refl}
-use borrow.Author.Rules.{rules}
 use Rattle.modules.specs.Model.{chain_of}
-use Rattle.weights.proofs.Lengthening.{Lengthened, reach_range, lengthened_start, lengthened_tabled, lengthened_reached, lengthened_loaded, lengthened_next, lengthened_end, looked_nothing, spares_few}
+use Rattle.weights.proofs.Lengthening.{Lengthened}
 use Rattle.weights.proofs.weigh.over_last.Given as goal
 
 abbrev pub invariant-loop-l : goal.invariant-loop-l

@@ -1,19 +1,15 @@
 -- `over_next` is the `over_next` of specs by whatever the marked cells say: one step at the last task, else the least so far over the cores of the module after it,
 -- up to those that one copy leaves.
-use Prim.Native.Nat.{ℕ, ◌+◌, ◌-◌, ◌≤◌, ◌<◌}
+use Prim.Native.Nat.{ℕ, ◌-◌, ◌≤◌, ◌<◌}
 use native.Mathlib.Omega.{arith}
 use mathlib.Core.Path.{◌≡◌, refl, ap, ◌∙◌}
 use mathlib.Core.Logic.{inl, inr, ⊎_elim}
-use borrow.Author.Rules.{rules}
 use Rattle.records.proofs.Cases.{lt_or_le}
 use Rattle.modules.specs.Model.{chain_of}
-use Rattle.search.specs.Least.{lesser, least}
-use Rattle.search.specs.Plan.{cap}
-use Rattle.search.specs.Weight.{over_copies}
+use Rattle.search.specs.Least.{lesser}
 use Rattle.search.proofs.Least.{least_more}
 use Rattle.search.proofs.Sparing.{need_most}
-use Rattle.slack.specs.Problem.{problem, enough_on, need_on, sparing_on}
-use Rattle.weights.specs.Cells.{Looked}
+use Rattle.slack.specs.Problem.{enough_on, need_on}
 use Rattle.weights.proofs.Fitting.{reached_inside, spares_facts}
 use Rattle.weights.proofs.Looking.{looked_none, looked_all, looked_more, looked_tabled, next_last, next_start, next_few, next_end}
 use Rattle.weights.proofs.weigh.over_next.Goals as goal
@@ -25,7 +21,7 @@ pub shape_of-work-then-l-board : goal.shape_of-work-then-l-board
 shape_of-work-then-l-board c = c.over_copies.ensures.long
 
 pub returns-then-l-board : goal.returns-then-l-board
-returns-then-l-board c = 
+returns-then-l-board c =
     let a = c.args in
     let k = chain_of a.costs.now a.board in
     let x = a.x in
@@ -42,7 +38,7 @@ pub no_plan-m-requires : goal.no_plan-m-requires
 no_plan-m-requires c = omega (arith, c.requires.0.area.sized.cores_most)
 
 pub loop-i-init : goal.loop-i-init
-loop-i-init c = 
+loop-i-init c =
     let a = c.args in
     let k = chain_of a.costs.now a.board in
     let x = a.x in
@@ -57,7 +53,7 @@ loop-i-init c =
     )
 
 pub over_copies-v-requires : goal.over_copies-v-requires
-over_copies-v-requires c = 
+over_copies-v-requires c =
     let a = c.args in
     let k = chain_of a.costs.now a.board in
     let o = c.loop-i in (
@@ -75,7 +71,7 @@ pub loop-i-smaller : goal.loop-i-smaller
 loop-i-smaller c = omega (arith, c.loop-i-test.true)
 
 pub loop-i-preserved : goal.loop-i-preserved
-loop-i-preserved c = 
+loop-i-preserved c =
     let a = c.args in
     let k = chain_of a.costs.now a.board in
     let x = a.x in
@@ -93,7 +89,7 @@ pub shape_of-work : goal.shape_of-work
 shape_of-work c = c.loop-i.invariant.2.long
 
 pub returns : goal.returns
-returns c = 
+returns c =
     let a = c.args in
     let k = chain_of a.costs.now a.board in
     let x = a.x in

@@ -12,11 +12,10 @@ use Rattle.weights.specs.declared.after.Rest.{Rest}
 use Rattle.weights.specs.Places.{Stands}
 use Rattle.weights.proofs.Beginning.{start_slack}
 use Rattle.weights.proofs.Lengthening.{looked_nothing}
-use borrow.Author.Rules.{rules}
 use Rattle.weights.proofs.weigh.start_weight.Goals as goal
 
 pub returns-then-work-q-eq0 : goal.returns-then-work-q-eq0
-returns-then-work-q-eq0 c = 
+returns-then-work-q-eq0 c =
     let a = c.args in
     let k = chain_of a.costs.now a.board in
     let x : Rest = record { before = 0; from = 0; cores = a.q; received = 0; left = a.left } in
@@ -34,7 +33,7 @@ returns-then-work-q-eq0 c =
     (λ l r q' u. omega (arith, none, rw (← c.requires.1) at (start_slack k a.n l r a.q q' u)))
 
 pub over_last-requires : goal.over_last-requires
-over_last-requires c = 
+over_last-requires c =
     let a = c.args in
     let k = chain_of a.costs.now a.board in
     let x : Rest = record { before = 0; from = 0; cores = a.q; received = 0; left = a.left } in

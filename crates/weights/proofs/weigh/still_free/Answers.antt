@@ -1,5 +1,4 @@
 -- `still_free` asks the added task alone.
-use borrow.Author.Rules.{rules}
 use Rattle.weights.proofs.weigh.still_free.Goals as goal
 
 pub returns-then-rep : goal.returns-then-rep
