@@ -1,7 +1,7 @@
 /* Core plans that are proved to be the best: the services for C callers. Link with libzombreki.a.
  *
  * Every answer, and what becomes of the lent bytes and words, is proved for every content and every length of what is lent
- * (crates/zombreki). No proof covers a caller that breaks one of these:
+ * (crates/zombreki_c). No proof covers a caller that breaks one of these:
  *  - pointer and count belong together: that many elements can be read there and, where the pointer is not to const,
  *    written;
  *  - what is lent to one call does not overlap, and nobody else writes to it, or reads what the call writes, meanwhile;

@@ -1,9 +1,7 @@
-// The services for C and Rust callers, under plain names: Judge, Bench way and Best plan (document 01, "Three services"), filling in
-// costs from laws (document 02, M-101), a task's reach (M-102), a plan's single-block time (M-104) and the timetable of a stream
-// (M-105).
+// The services under plain names: Judge, Bench way and Best plan (document 01, "Three services"), filling in costs from laws (document
+// 02, M-101), a task's reach (M-102), a plan's single-block time (M-104) and the timetable of a stream (M-105).
 //
-// A slice crosses as a pointer and a count of elements. No function has a `requires`: each answers for every content and length.
-// include/zombreki.h declares them for C, and says what no proof covers.
+// No function has a `requires`: each answers for every content and length. The crate `zombreki_c` exports them to C and Rust callers.
 #![tactic(auto)]
 
 ghost use Rattle.std.specs.Prelude.{◌≡◌, ◌<◌};
@@ -49,16 +47,14 @@ fn in_words(a: figures::Answer) -> Answer
 }
 
 // Judges plan bytes.
-#[unsafe(no_mangle)]
-pub extern "C" fn zombreki_judge(costs: &[u8], plan: &[u8]) -> Answer
+pub fn zombreki_judge(costs: &[u8], plan: &[u8]) -> Answer
     ensures { result ≡ in_words (judged costs.now plan.now) }
 {
     in_words(judge::judge(costs, plan))
 }
 
 // Fills in the greedy plan of a grouping.
-#[unsafe(no_mangle)]
-pub extern "C" fn zombreki_greedy_plan(costs: &[u8], grouping: u16, plan: &mut [u8]) -> Answer
+pub fn zombreki_greedy_plan(costs: &[u8], grouping: u16, plan: &mut [u8]) -> Answer
     ensures { (result ≡ in_words (greedy_answer costs.now grouping plan.old))
         × (plan.new ≡ greedy_bytes costs.now grouping plan.old) }
 {
@@ -66,8 +62,7 @@ pub extern "C" fn zombreki_greedy_plan(costs: &[u8], grouping: u16, plan: &mut [
 }
 
 // Fills in the best plan.
-#[unsafe(no_mangle)]
-pub extern "C" fn zombreki_best_plan(costs: &[u8], plan: &mut [u8], work: &mut [u32]) -> Answer
+pub fn zombreki_best_plan(costs: &[u8], plan: &mut [u8], work: &mut [u32]) -> Answer
     ensures { (result ≡ in_words (best_answer costs.now plan.old work.old))
         × (plan.new ≡ best_bytes costs.now plan.old work.old)
         × (work.new ≡ best_work costs.now plan.old work.old) }
@@ -76,8 +71,7 @@ pub extern "C" fn zombreki_best_plan(costs: &[u8], plan: &mut [u8], work: &mut [
 }
 
 // Fills in the full set of cost records from a first part and laws.
-#[unsafe(no_mangle)]
-pub extern "C" fn zombreki_fill_costs(head: &[u8], laws: &[u8], out: &mut [u8]) -> Filled
+pub fn zombreki_fill_costs(head: &[u8], laws: &[u8], out: &mut [u8]) -> Filled
     ensures { (result ≡ fill_answer head.now laws.now out.old)
         × (out.new ≡ fill_bytes head.now laws.now out.old) }
 {
@@ -85,24 +79,21 @@ pub extern "C" fn zombreki_fill_costs(head: &[u8], laws: &[u8], out: &mut [u8]) 
 }
 
 // How far a module can go from a first task, by memory.
-#[unsafe(no_mangle)]
-pub extern "C" fn zombreki_reach(costs: &[u8], first: u8) -> Filled
+pub fn zombreki_reach(costs: &[u8], first: u8) -> Filled
     ensures { result ≡ reach_answer costs.now first }
 {
     modules::read_reach(costs, first)
 }
 
 // The single-block time of plan bytes that Judge passes.
-#[unsafe(no_mangle)]
-pub extern "C" fn zombreki_block_time(costs: &[u8], plan: &[u8]) -> Filled
+pub fn zombreki_block_time(costs: &[u8], plan: &[u8]) -> Filled
     ensures { result ≡ block_time_answer costs.now plan.now }
 {
     judge::block_time(costs, plan)
 }
 
 // Fills in when the last module of plan bytes is through with each of the blocks 1 to n.
-#[unsafe(no_mangle)]
-pub extern "C" fn zombreki_timetable(costs: &[u8], plan: &[u8], n: u32, table: &mut [u64]) -> Filled
+pub fn zombreki_timetable(costs: &[u8], plan: &[u8], n: u32, table: &mut [u64]) -> Filled
     ensures { (result ≡ timetable_answer costs.now plan.now n table.old)
         × (table.new ≡ timetable_entries costs.now plan.now n table.old) }
 {
