@@ -1,12 +1,11 @@
 -- `zombreki_judge` hands on what `judge` answers: no response is too large for a 32-bit number.
 use mathlib.Core.Path.{ap, ◌∙◌}
-use borrow.Author.Rules.{rules}
 use Rattle.zombreki.specs.Exported.{in_words}
 use Rattle.zombreki.proofs.Fitting.{fits, judged_small}
 use Rattle.zombreki.proofs.zombreki_judge.Goals as goal
 
 pub in_words-requires : goal.in_words-requires
-in_words-requires c = 
+in_words-requires c =
     let a = c.args in
     fits c.judge.ensures (judged_small a.costs.now a.plan.now)
 

@@ -2,33 +2,32 @@
 use mathlib.Core.Path.{ap, ◌∙◌}
 use Prim.Native.Nat.{ℕ}
 use native.Mathlib.Omega.{arith}
-use borrow.Author.Rules.{rules}
 use lib.ListN.{replicate}
 use Rattle.planners.proofs.Serving.{accepted_is, refused_costs, refused_bytes, refused_work, served}
 use Rattle.planners.proofs.best.best_plan.Goals as goal
 
 pub returns-then-read-ne0 : goal.returns-then-read-ne0
-returns-then-read-ne0 c = 
+returns-then-read-ne0 c =
     let a = c.args in
     refused_costs a.costs.now a.plan.now a.work.now c.read-read.ensures c.if-read-ne0.true c.refuse.ensures
 
 pub returns-then-plan-lt-PLAN_BYTES : goal.returns-then-plan-lt-PLAN_BYTES
-returns-then-plan-lt-PLAN_BYTES c = 
+returns-then-plan-lt-PLAN_BYTES c =
     let a = c.args in
     refused_bytes a.costs.now a.plan.now a.work.now c.read-read.ensures (omega arith) c.if-plan-lt-PLAN_BYTES.true c.refuse-then-plan-lt-PLAN_BYTES.ensures
 
 pub returns-then-work-lt-WORK_WORDS : goal.returns-then-work-lt-WORK_WORDS
-returns-then-work-lt-WORK_WORDS c = 
+returns-then-work-lt-WORK_WORDS c =
     let a = c.args in
     refused_work a.costs.now a.plan.now a.work.now c.read-read.ensures (omega arith) c.if-plan-lt-PLAN_BYTES.false c.if-work-lt-WORK_WORDS.true c.refuse-then-work-lt-WORK_WORDS.ensures
 
 pub search-answer-requires : goal.search-answer-requires
-search-answer-requires c = 
+search-answer-requires c =
     let a = c.args in
     (accepted_is a.costs.now c.read-read.ensures (omega arith), c.if-plan-lt-PLAN_BYTES.false, c.if-work-lt-WORK_WORDS.false)
 
 pub returns : goal.returns
-returns c = 
+returns c =
     let a = c.args in
     let found = c.search-answer.ensures in
     let zeros = c.zero.ensures ∙ ap (λ (n : ℕ). replicate n 0) found.2 in

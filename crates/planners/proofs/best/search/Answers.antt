@@ -1,14 +1,13 @@
 -- `search` finds what the definition that tries every plan finds: nothing where no plan is within the greatest threshold, else the
 -- plan of the least one that some plan is within, the first of the lightest.
 use mathlib.Core.Path.{◌∙◌}
-use borrow.Author.Rules.{rules}
 use borrow.Author.Tests.{not-true, not-false}
 use Rattle.layout.proofs.Placing.{put_room}
 use Rattle.planners.proofs.Serving.{area, decided_feasible, decided_bottom, walked_some, walked_none, none_answer, none_bytes, plan_reached, plan_answer, plan_bytes_lem}
 use Rattle.planners.proofs.best.search.Goals as goal
 
 pub returns-then-not-x : goal.returns-then-not-x
-returns-then-not-x c = 
+returns-then-not-x c =
     let a = c.args in
     let x = c.first_plan-x.ensures in
     let room = area a.costs.now a.board c.requires.0 a.work.now c.requires.2 in
@@ -19,7 +18,7 @@ returns-then-not-x c =
     )
 
 pub figures_of-requires : goal.figures_of-requires
-figures_of-requires c = 
+figures_of-requires c =
     let a = c.args in
     let x = c.first_plan-x.ensures in
     let room = area a.costs.now a.board c.requires.0 a.work.now c.requires.2 in
@@ -29,7 +28,7 @@ figures_of-requires c =
     plan_reached a.costs.now a.board c.requires.0 x.least feasible bottom f.1
 
 pub returns : goal.returns
-returns c = 
+returns c =
     let a = c.args in
     let x = c.first_plan-x.ensures in
     let room = area a.costs.now a.board c.requires.0 a.work.now c.requires.2 in

@@ -2,12 +2,11 @@
 use mathlib.Core.Path.{refl}
 use mathlib.Core.Logic.{⊎_elim}
 use native.Mathlib.Omega.{arith}
-use borrow.Author.Rules.{rules}
 use Rattle.layout.specs.Layout.{encode}
 use Rattle.walk.proofs.first.first_plan.Goals as goal
 
 pub returns-then-x-gt-TOP : goal.returns-then-x-gt-TOP
-returns-then-x-gt-TOP c = 
+returns-then-x-gt-TOP c =
     let x = c.lightest_plans-x in
     record {
       least = x.result.threshold;
@@ -23,7 +22,7 @@ pub overflow_mul-board : goal.overflow_mul-board
 overflow_mul-board c = omega (arith, (c.lightest_plans-x.ensures.roomy c.if-x-gt-TOP.false).sized.cores_most)
 
 pub returns-then-board-x : goal.returns-then-board-x
-returns-then-board-x c = 
+returns-then-board-x c =
     let x = c.lightest_plans-x in
     let low = c.if-x-gt-TOP.false in
     let f = x.ensures.found (x.ensures.roomy low) low in
@@ -39,14 +38,14 @@ returns-then-board-x c =
 
 pub lay_path-requires : goal.lay_path-requires
 unfolding encode
-lay_path-requires c = 
+lay_path-requires c =
     let x = c.lightest_plans-x in
     let low = c.if-x-gt-TOP.false in
     let f = x.ensures.found (x.ensures.roomy low) low in
     (f.tabled, f.weighed, f.fewest, f.few, f.weight, omega (arith, c.if-board-x.false), refl)
 
 pub returns : goal.returns
-returns c = 
+returns c =
     let x = c.lightest_plans-x in
     let low = c.if-x-gt-TOP.false in
     let room = x.ensures.roomy low in

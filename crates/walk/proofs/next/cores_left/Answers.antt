@@ -1,7 +1,6 @@
 -- `cores_left` is the fewest cores of the rest: before the first module those of a whole plan, and after a module what the rest has left.
 use mathlib.Core.Path.{refl, sym, ap, ◌∙◌}
 use Prim.Native.Nat.{ℕ}
-use borrow.Author.Rules.{rules}
 use Rattle.modules.specs.Model.{chain_of}
 use Rattle.search.proofs.Sparing.{need_start}
 use Rattle.slack.specs.Problem.{enough_on, need_on}

@@ -4,11 +4,10 @@ use mathlib.Core.Path.{◌≡◌, refl}
 use native.Mathlib.Omega.{arith}
 use borrow.Author.Tests.{eq-eqb, ne_eqb}
 use Rattle.sketch.specs.Slacks.{slack_at}
-use borrow.Author.Rules.{rules}
 use Rattle.walk.proofs.next.starts_short.Goals as goal
 
 pub returns-then-m-eq0 : goal.returns-then-m-eq0
-returns-then-m-eq0 c = 
+returns-then-m-eq0 c =
     let a = c.args in
     let e : a.p * 33 + a.m.whole ≡ slack_at 0 a.p a.m.whole = omega arith in
     rw (eq-eqb a.m.last 0 c.if-m-eq0.true, ← e) refl

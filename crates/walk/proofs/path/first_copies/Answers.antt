@@ -1,22 +1,18 @@
 -- `first_copies` finds the first copies with their first cores: none that are passed may come, and 0 copies never do.
-use mathlib.Core.Path.{◌≡◌, refl}
-use mathlib.Core.Bool.{false}
-use Prim.Native.Nat.{ℕ, ◌+◌, ◌-◌, ◌≤◌, ◌<◌}
+use mathlib.Core.Path.{refl}
 use native.Mathlib.Omega.{arith}
 use borrow.Author.Count.{below_more}
-use borrow.Author.Rules.{rules}
 use Rattle.modules.specs.Model.{chain_of}
-use Rattle.walk.specs.Walk.{may_come}
 use Rattle.walk.proofs.Coming.{comes_not}
 use Rattle.walk.proofs.path.first_copies.Goals as goal
 
 pub loop-r-init : goal.loop-r-init
-loop-r-init c = 
+loop-r-init c =
     let a = c.args in
     (omega arith, omega arith, λ i h p _. comes_not (chain_of a.costs.now a.board) a.n a.m a.l i p (λ q f. omega (arith, f.fits.one_copy)))
 
 pub returns-then-p-ne0 : goal.returns-then-p-ne0
-returns-then-p-ne0 c = 
+returns-then-p-ne0 c =
     let f = c.first_cores-p.ensures in
     record {
       first = refl;

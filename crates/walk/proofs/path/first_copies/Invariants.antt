@@ -1,13 +1,9 @@
 -- `first_copies` finds the first copies with their first cores: none that are passed may come, and 0 copies never do.
-use mathlib.Core.Path.{◌≡◌, refl}
+use mathlib.Core.Path.{◌≡◌}
 use mathlib.Core.Bool.{false}
 use Prim.Native.Nat.{ℕ, ◌+◌, ◌-◌, ◌≤◌, ◌<◌}
-use native.Mathlib.Omega.{arith}
-use borrow.Author.Count.{below_more}
-use borrow.Author.Rules.{rules}
 use Rattle.modules.specs.Model.{chain_of}
 use Rattle.walk.specs.Walk.{may_come}
-use Rattle.walk.proofs.Coming.{comes_not}
 use Rattle.walk.proofs.path.first_copies.Given as goal
 
 abbrev pub invariant-loop-r : goal.invariant-loop-r

@@ -1,26 +1,22 @@
 -- `first_cores` finds the first cores: none that are passed may come, 0 cores never do, and where the copies have more cores than the board
 -- there is no room for them.
-use mathlib.Core.Path.{◌≡◌, sym, ◌∙◌}
-use mathlib.Core.Bool.{false}
+use mathlib.Core.Path.{sym, ◌∙◌}
 use mathlib.Core.Logic.{⊎_elim}
-use Prim.Native.Nat.{ℕ, ◌+◌, ◌-◌, ◌*◌, ◌≤◌, ◌<◌}
 use native.Mathlib.Nat.{mul-add, mul-le-mul_left}
 use native.Mathlib.Omega.{arith}
 use borrow.Author.Count.{below_more}
-use borrow.Author.Rules.{rules}
 use Rattle.records.proofs.Cases.{lt_or_le}
 use Rattle.modules.specs.Model.{chain_of}
-use Rattle.walk.specs.Walk.{may_come}
 use Rattle.walk.proofs.Coming.{comes_not}
 use Rattle.walk.proofs.path.first_cores.Goals as goal
 
 pub loop-used-init : goal.loop-used-init
-loop-used-init c = 
+loop-used-init c =
     let a = c.args in
     (omega arith, c.requires.7, omega arith, λ j h. comes_not (chain_of a.costs.now a.board) a.n a.m a.l a.r j (λ q f. omega (arith, f.fits.one_core)))
 
 pub returns-then-may_come : goal.returns-then-may_come
-returns-then-may_come c = 
+returns-then-may_come c =
     let o = c.loop-used in
     record {
       high = omega (arith, o.invariant.1, c.loop-used-test.true);
@@ -39,14 +35,14 @@ pub loop-used-smaller : goal.loop-used-smaller
 loop-used-smaller c = omega arith
 
 pub loop-used-preserved : goal.loop-used-preserved
-loop-used-preserved c = 
+loop-used-preserved c =
     let a = c.args in
     let o = c.loop-used in
     let more = mul-add a.r o.p 1 in
     (omega arith, omega (arith, o.invariant.1), omega (arith, o.invariant.2), below_more _ _ o.invariant.3 (sym c.may_come.ensures ∙ c.if-may_come.false))
 
 pub returns : goal.returns
-returns c = 
+returns c =
     let a = c.args in
     let o = c.loop-used in
     record {

@@ -1,17 +1,10 @@
 -- `first_cores` finds the first cores: none that are passed may come, 0 cores never do, and where the copies have more cores than the board
 -- there is no room for them.
-use mathlib.Core.Path.{◌≡◌, sym, ◌∙◌}
+use mathlib.Core.Path.{◌≡◌}
 use mathlib.Core.Bool.{false}
-use mathlib.Core.Logic.{⊎_elim}
 use Prim.Native.Nat.{ℕ, ◌+◌, ◌-◌, ◌*◌, ◌≤◌, ◌<◌}
-use native.Mathlib.Nat.{mul-add, mul-le-mul_left}
-use native.Mathlib.Omega.{arith}
-use borrow.Author.Count.{below_more}
-use borrow.Author.Rules.{rules}
-use Rattle.records.proofs.Cases.{lt_or_le}
 use Rattle.modules.specs.Model.{chain_of}
 use Rattle.walk.specs.Walk.{may_come}
-use Rattle.walk.proofs.Coming.{comes_not}
 use Rattle.walk.proofs.path.first_cores.Given as goal
 
 abbrev pub invariant-loop-used : goal.invariant-loop-used

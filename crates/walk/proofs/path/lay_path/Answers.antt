@@ -2,7 +2,7 @@
 -- next module.
 use mathlib.Core.List.{[]}
 use mathlib.Core.Path.{refl, sym, ap, ◌∙◌}
-use Prim.Native.Nat.{◌-◌, ◌≤◌}
+use Prim.Native.Nat.{◌≤◌}
 use native.Mathlib.Omega.{arith}
 use borrow.Author.Rules.{rules}
 use lib.ListN.{length}
@@ -10,14 +10,14 @@ use Rattle.modules.specs.Model.{chain_of}
 use Rattle.layout.specs.Layout.{most_modules}
 use Rattle.layout.proofs.Placing.{encode_length}
 use Rattle.walk.proofs.Coming.{passed_beside}
-use Rattle.walk.proofs.Laying.{Laid, laid_start, laid_length, laid_end, next_some, next_has, next_room, laid_next}
+use Rattle.walk.proofs.Laying.{laid_start, laid_length, laid_end, next_some, next_has, next_room, laid_next}
 use Rattle.walk.proofs.path.lay_path.Goals as goal
 
 pub overflow_add-left : goal.overflow_add-left
 overflow_add-left c = omega (arith, c.requires.5, c.requires.0.area.sized.cores_most)
 
 pub loop-m-init : goal.loop-m-init
-loop-m-init c = 
+loop-m-init c =
     let a = c.args in
     laid_start (chain_of a.costs.now a.board) a.n c.requires.2 c.requires.3 c.requires.4 c.requires.5 c.requires.6
 
@@ -25,7 +25,7 @@ pub rooms_of-requires : goal.rooms_of-requires
 rooms_of-requires c = (c.requires.0, c.loop-m.invariant.right, search rules)
 
 pub next_module-x-requires : goal.next_module-x-requires
-next_module-x-requires c = 
+next_module-x-requires c =
     let a = c.args in
     let o = c.loop-m in
     let more = c.loop-m-test.true in
@@ -33,7 +33,7 @@ next_module-x-requires c =
     (c.requires.0, c.requires.1, o.invariant.right, c.rooms_of.ensures.0, c.rooms_of.ensures.1, more, some)
 
 pub bounds-rooms-x : goal.bounds-rooms-x
-bounds-rooms-x c = 
+bounds-rooms-x c =
     let a = c.args in
     let o = c.loop-m in
     let x = c.next_module-x in
@@ -41,7 +41,7 @@ bounds-rooms-x c =
     omega (arith, f.beside, c.requires.0.area.sized.cores_most)
 
 pub cores_left-requires : goal.cores_left-requires
-cores_left-requires c = 
+cores_left-requires c =
     let a = c.args in
     let k = chain_of a.costs.now a.board in
     let o = c.loop-m in
@@ -53,7 +53,7 @@ cores_left-requires c =
     (c.requires.0.area, more, f.fits.one_core, passed_beside k a.n o.m o.invariant.right x.result.cores refl room most)
 
 pub overflow_mul-spare : goal.overflow_mul-spare
-overflow_mul-spare c = 
+overflow_mul-spare c =
     let a = c.args in
     let o = c.loop-m in
     let x = c.next_module-x in
@@ -61,7 +61,7 @@ overflow_mul-spare c =
     omega (arith, f.fits.room, c.requires.0.area.sized.cores_most)
 
 pub overflow_sub-spare : goal.overflow_sub-spare
-overflow_sub-spare c = 
+overflow_sub-spare c =
     let a = c.args in
     let o = c.loop-m in
     let x = c.next_module-x in
@@ -73,7 +73,7 @@ pub overflow_add-i : goal.overflow_add-i
 overflow_add-i c = omega (arith, c.loop-m.invariant.few)
 
 pub loop-m-smaller : goal.loop-m-smaller
-loop-m-smaller c = 
+loop-m-smaller c =
     let a = c.args in
     let o = c.loop-m in
     let x = c.next_module-x in
@@ -81,7 +81,7 @@ loop-m-smaller c =
     omega (arith, f.fits.later, c.loop-m-test.true)
 
 pub loop-m-preserved : goal.loop-m-preserved
-loop-m-preserved c = 
+loop-m-preserved c =
     let a = c.args in
     let k = chain_of a.costs.now a.board in
     let o = c.loop-m in
@@ -94,13 +94,13 @@ loop-m-preserved c =
     laid_next k a.n a.work.now o.m o.i o.plan o.invariant more x.result x.ensures room c.requires.1 c.requires.2 left c.requires.0.area.sized.tasks_most c.put_module.ensures
 
 pub shape_of-plan : goal.shape_of-plan
-shape_of-plan c = 
+shape_of-plan c =
     let a = c.args in
     let l = c.loop-m in
     laid_length (chain_of a.costs.now a.board) a.n a.work.now l.m l.i l.plan l.invariant ∙ sym (ap length c.requires.6 ∙ encode_length most_modules [])
 
 pub returns : goal.returns
-returns c = 
+returns c =
     let a = c.args in
     let l = c.loop-m in
     laid_end (chain_of a.costs.now a.board) a.n a.work.now l.m l.i l.plan l.invariant c.loop-m-test.false

@@ -1,19 +1,17 @@
 -- `next_module` is the module that the walk takes: no last task that is passed may come, and where some module may come, the last task does.
-use Prim.Native.Nat.{◌+◌, ◌-◌, ◌≤◌}
 use native.Mathlib.Omega.{arith}
 use borrow.Author.Count.{below_more}
-use borrow.Author.Rules.{rules}
 use Rattle.modules.specs.Model.{chain_of}
-use Rattle.walk.proofs.Coming.{NoneBelow, comes_not, last_comes, next_is}
+use Rattle.walk.proofs.Coming.{comes_not, last_comes, next_is}
 use Rattle.walk.proofs.path.next_module.Goals as goal
 
 pub loop-l-init : goal.loop-l-init
-loop-l-init c = 
+loop-l-init c =
     let a = c.args in
     (omega arith, omega arith, λ i h r _ p _. comes_not (chain_of a.costs.now a.board) a.n a.m i r p (λ q f. omega (arith, f.fits.later)))
 
 pub returns-then-x-ne0 : goal.returns-then-x-ne0
-returns-then-x-ne0 c = 
+returns-then-x-ne0 c =
     let a = c.args in
     let o = c.loop-l in
     let x = c.first_copies-x in
@@ -29,7 +27,7 @@ pub loop-l-preserved : goal.loop-l-preserved
 loop-l-preserved c = (omega arith, omega arith, below_more _ _ c.loop-l.invariant.2 (c.first_copies-x.ensures.none (omega arith)))
 
 pub returns : goal.returns
-returns c = 
+returns c =
     let a = c.args in
     let k = chain_of a.costs.now a.board in
     let o = c.loop-l in

@@ -1,10 +1,7 @@
 -- `next_module` is the module that the walk takes: no last task that is passed may come, and where some module may come, the last task does.
 use Prim.Native.Nat.{◌+◌, ◌-◌, ◌≤◌}
-use native.Mathlib.Omega.{arith}
-use borrow.Author.Count.{below_more}
-use borrow.Author.Rules.{rules}
 use Rattle.modules.specs.Model.{chain_of}
-use Rattle.walk.proofs.Coming.{NoneBelow, comes_not, last_comes, next_is}
+use Rattle.walk.proofs.Coming.{NoneBelow}
 use Rattle.walk.proofs.path.next_module.Given as goal
 
 abbrev pub invariant-loop-l : goal.invariant-loop-l

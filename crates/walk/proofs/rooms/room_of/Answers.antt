@@ -1,6 +1,5 @@
 -- `room_of` is the `room_of` of specs: the tests are the definition's, and what cannot be taken off leaves nothing.
 use native.Mathlib.Omega.{arith}
-use borrow.Author.Rules.{rules}
 use borrow.Author.Tests.{eq-eqb, ne_eqb}
 use Rattle.search.specs.Least.{pick}
 use Rattle.walk.specs.Walk.{room_of}
@@ -11,7 +10,7 @@ unfolding room_of
 returns-then-m-eq0 c = simp (eq-eqb _ _ c.if-m-eq0.true)
 
 pub spares_at-requires : goal.spares_at-requires
-spares_at-requires c = 
+spares_at-requires c =
     let m = c.requires.1 in
     let later = c.if-m-eq0.false in
     (c.requires.0, m.reached later, m.few later, (m.spares later).0, (m.spares later).1)

@@ -2,12 +2,11 @@
 use mathlib.Core.Path.{◌≡◌, sym, ◌∙◌}
 use mathlib.Core.List.{List}
 use mathlib.Core.Logic.{⊎_elim}
-use Prim.Native.Nat.{ℕ, ◌+◌, ◌-◌, ◌≤◌, ◌<◌}
+use Prim.Native.Nat.{ℕ, ◌+◌, ◌<◌}
 use native.Mathlib.Omega.{arith}
-use lib.ListN.{length, get_or, set, length-set}
+use lib.ListN.{length, set, length-set}
 use lib.Seq.{get_or-set_same, get_or-set_other}
 use borrow.Author.Count.{below_none}
-use borrow.Author.Rules.{rules}
 use Rattle.records.proofs.Cases.{lt_or_le}
 use Rattle.modules.specs.Model.{Chain, chain_of}
 use Rattle.walk.specs.declared.rooms.Passed.{Passed}
@@ -37,7 +36,7 @@ pub loop-q-smaller : goal.loop-q-smaller
 loop-q-smaller c = omega arith
 
 pub loop-q-preserved : goal.loop-q-preserved
-loop-q-preserved c = 
+loop-q-preserved c =
     let a = c.args in
     let o = c.loop-q in
     let room = c.room_of-room in
@@ -48,6 +47,6 @@ pub shape_of-rooms : goal.shape_of-rooms
 shape_of-rooms c = c.loop-q.invariant.1 ∙ sym c.requires.2
 
 pub returns : goal.returns
-returns c = 
+returns c =
     let o = c.loop-q in
     (record { at = λ q h. o.invariant.2 q (omega arith) }, o.invariant.1)

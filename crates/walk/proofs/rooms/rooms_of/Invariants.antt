@@ -1,14 +1,8 @@
 -- `rooms_of` holds the room for each number of cores that it has passed.
-use mathlib.Core.Path.{◌≡◌, sym, ◌∙◌}
+use mathlib.Core.Path.{◌≡◌}
 use mathlib.Core.List.{List}
-use mathlib.Core.Logic.{⊎_elim}
 use Prim.Native.Nat.{ℕ, ◌+◌, ◌-◌, ◌≤◌, ◌<◌}
-use native.Mathlib.Omega.{arith}
-use lib.ListN.{length, get_or, set, length-set}
-use lib.Seq.{get_or-set_same, get_or-set_other}
-use borrow.Author.Count.{below_none}
-use borrow.Author.Rules.{rules}
-use Rattle.records.proofs.Cases.{lt_or_le}
+use lib.ListN.{length, get_or}
 use Rattle.modules.specs.Model.{Chain, chain_of}
 use Rattle.walk.specs.declared.rooms.Passed.{Passed}
 use Rattle.walk.specs.Walk.{room_of}
