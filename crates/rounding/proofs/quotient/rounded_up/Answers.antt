@@ -9,13 +9,13 @@ use Rattle.rounding.proofs.quotient.rounded_up.Goals as goal
 
 pub returns-then-y-lt1 : goal.returns-then-y-lt1
 unfolding rounded_up
-returns-then-y-lt1 c = 
+returns-then-y-lt1 c =
     let a = c.args in
     let z : a.y ≡ 0 = omega arith in
     (rw z (sym (div-zero (a.x + (0 - 1)))), omega arith)
 
 pub returns : goal.returns
 unfolding rounded_up
-returns c = 
+returns c =
     let a = c.args in
     (refl, rounded_most a.x a.y)
