@@ -220,11 +220,11 @@ module _ (head l : List ℕ) (b : Board) (first : IsFirst head b) (laws : IsLaws
 
       after : 1 + k ≤ n → Bears s n (due_key k p n) → value_at s n ≡ due_value l k (key kind t a c)
       after h d =
-          let other-kind : kind ≡ 2 → ⊥ = λ z. omega arith in
+          let other_kind : kind ≡ 2 → ⊥ = λ z. omega arith in
           let e₀ : (due_key k p n).kind ≡ kind = sym d.kind ∙ e.kind in
           let e₁ : (due_key k p n).task ≡ t = sym (d.task (λ z. omega (arith, later_kind n h))) ∙ e.task (λ z. omega arith) in
-          let e₂ : (due_key k p n).a ≡ a = sym (d.a (λ z. omega (arith, later_kind n h))) ∙ e.a other-kind in
-          let e₃ : (due_key k p n).b ≡ c = sym (d.b (λ z. omega (arith, later_kind n h))) ∙ e.b other-kind in
+          let e₂ : (due_key k p n).a ≡ a = sym (d.a (λ z. omega (arith, later_kind n h))) ∙ e.a other_kind in
+          let e₃ : (due_key k p n).b ≡ c = sym (d.b (λ z. omega (arith, later_kind n h))) ∙ e.b other_kind in
           later_value n h u ∙ rw (e₀, e₁, e₂, e₃) (refl)
 
   pub follows : Follows (all_records head l b.tasks b.cores) head l b

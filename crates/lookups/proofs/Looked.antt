@@ -136,7 +136,7 @@ module _ (s : List ℕ) (b : Board) (c : IsCosts s b) where
 
   -- ---- kinds 3 and 4
 
-  module _ (t p : ℕ) (l : 1 ≤ t) (p-low : 1 ≤ p) (p-high : p ≤ b.cores) where
+  module _ (t p : ℕ) (l : 1 ≤ t) (p_low : 1 ≤ p) (p_high : p ≤ b.cores) where
     execution_place : ℕ
     execution_place = 1 + b.tasks + cell_of b.cores t p
 
@@ -145,31 +145,31 @@ module _ (s : List ℕ) (b : Board) (c : IsCosts s b) where
 
     execution_there : t ≤ b.tasks → execution_place < count
     unfolding count count_of execution_place
-    execution_there u = omega (arith, cell_of_lt b.cores b.tasks t p l u p-low p-high)
+    execution_there u = omega (arith, cell_of_lt b.cores b.tasks t p l u p_low p_high)
 
     internal_there : t < b.tasks → internal_place < count
     unfolding count count_of internal_place
-    internal_there u = omega (arith, cell_of_lt b.cores (b.tasks - 1) t p l (omega arith) p-low p-high)
+    internal_there u = omega (arith, cell_of_lt b.cores (b.tasks - 1) t p l (omega arith) p_low p_high)
 
     pub execution_says : t ≤ b.tasks → RecordSays s b (key 3 t p 0) (value_at s) (execution_of s b t p)
     unfolding execution_of place place_of execution_place
     execution_says u =
         says_at (value_at s) (execution_of s b t p) (key 3 t p 0) execution_place (λ z. omega arith) refl (omega arith) (execution_there u)
-        (due_execution b.tasks b.cores t l p p-low p-high u) (simp (within_true t b.tasks l u, within_true p b.cores p-low p-high))
+        (due_execution b.tasks b.cores t l p p_low p_high u) (simp (within_true t b.tasks l u, within_true p b.cores p_low p_high))
 
     pub internal_says : t < b.tasks → RecordSays s b (key 4 t p 0) (value_at s) (internal_of s b t p)
     unfolding internal_of place place_of internal_place
     internal_says u =
         says_at (value_at s) (internal_of s b t p) (key 4 t p 0) internal_place (λ z. omega arith) refl (omega arith) (internal_there u)
-        (due_internal b.tasks b.cores t l p p-low p-high u) (simp (has_next_true t b.tasks l u, within_true p b.cores p-low p-high))
+        (due_internal b.tasks b.cores t l p p_low p_high u) (simp (has_next_true t b.tasks l u, within_true p b.cores p_low p_high))
 
     execution_in_range : t ≤ b.tasks → value_at s execution_place ≤ most_value
     unfolding execution_place
-    execution_in_range u = (right_at execution_place (key 3 t p 0) (omega arith) (execution_there u) (due_execution b.tasks b.cores t l p p-low p-high u)).1.value
+    execution_in_range u = (right_at execution_place (key 3 t p 0) (omega arith) (execution_there u) (due_execution b.tasks b.cores t l p p_low p_high u)).1.value
 
     internal_in_range : t < b.tasks → value_at s internal_place ≤ most_value
     unfolding internal_place
-    internal_in_range u = (right_at internal_place (key 4 t p 0) (omega arith) (internal_there u) (due_internal b.tasks b.cores t l p p-low p-high u)).1.value
+    internal_in_range u = (right_at internal_place (key 4 t p 0) (omega arith) (internal_there u) (due_internal b.tasks b.cores t l p p_low p_high u)).1.value
 
   pub execution_most : (t p : ℕ) → execution_of s b t p ≤ most_value
   unfolding execution_of execution_place
@@ -203,13 +203,13 @@ module _ (s : List ℕ) (b : Board) (c : IsCosts s b) where
     part_of_pair =
         simp (has_next_true t b.tasks l u, le-leb (8 * start + 8 * square) (length s) (omega (arith, c.long, part_inside)))
 
-    module _ (x q : ℕ) (x-low : 1 ≤ x) (x-high : x ≤ b.cores) (q-low : 1 ≤ q) (q-high : q ≤ b.cores) where
+    module _ (x q : ℕ) (x_low : 1 ≤ x) (x_high : x ≤ b.cores) (q_low : 1 ≤ q) (q_high : q ≤ b.cores) where
       cell : ℕ
       cell = cell_of b.cores x q
 
       cell_inside : cell < square
       unfolding cell square
-      cell_inside = cell_of_lt b.cores b.cores x q x-low x-high q-low q-high
+      cell_inside = cell_of_lt b.cores b.cores x q x_low x_high q_low q_high
 
       external_there : start + cell < count
       external_there = omega (arith, part_inside, cell_inside)
@@ -226,13 +226,13 @@ module _ (s : List ℕ) (b : Board) (c : IsCosts s b) where
       unfolding external_of place place_of start cell
       external_says =
           says_at (value_at s) (external_of (pair_of s b t) b.cores x q) (key 5 t x q) (start + cell) (λ z. omega arith) refl some_start external_there
-          (due_external b.tasks b.cores t l x q x-low x-high q-low q-high)
-          (simp (within_true x b.cores x-low x-high, within_true q b.cores q-low q-high) part_value)
+          (due_external b.tasks b.cores t l x q x_low x_high q_low q_high)
+          (simp (within_true x b.cores x_low x_high, within_true q b.cores q_low q_high) part_value)
 
       part_in_range : value_at (pair_of s b t) cell ≤ most_value
       unfolding start cell
       part_in_range =
-          rw part_value (right_at (start + cell) (key 5 t x q) some_start external_there (due_external b.tasks b.cores t l x q x-low x-high q-low q-high)).1.value
+          rw part_value (right_at (start + cell) (key 5 t x q) some_start external_there (due_external b.tasks b.cores t l x q x_low x_high q_low q_high)).1.value
 
   -- a part that is not there says 0
   no_part : (t n : ℕ) → has_next t b.tasks ≡ false → value_at (pair_of s b t) n ≤ most_value

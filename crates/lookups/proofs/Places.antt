@@ -108,7 +108,7 @@ module _ (k p : ℕ) where
     unfolding due_key
     due_task_lem l = simp (lt-ltb (t - 1) k (omega arith))
 
-    module _ (a : ℕ) (a-low : 1 ≤ a) (a-high : a ≤ p) where
+    module _ (a : ℕ) (a_low : 1 ≤ a) (a_high : a ≤ p) where
       c : ℕ
       c = cell_of p t a
 
@@ -117,7 +117,7 @@ module _ (k p : ℕ) where
       due_execution l =
           let e₁ : 1 + k + c - 1 ≡ k + c = omega arith in
           let e₂ : k + c - k ≡ c = omega arith in
-          simp (e₁, e₂, le-ltb (k + c) k (omega arith), lt-ltb c (k * p) (cell_of_lt p k t a first l a-low a-high), cell_of_div p t a first a-low a-high, cell_of_mod p t a a-low a-high)
+          simp (e₁, e₂, le-ltb (k + c) k (omega arith), lt-ltb c (k * p) (cell_of_lt p k t a first l a_low a_high), cell_of_div p t a first a_low a_high, cell_of_mod p t a a_low a_high)
 
       pub due_internal : t < k → due_key k p (1 + k + k * p + cell_of p t a) ≡ key 4 t a 0
       unfolding due_key c
@@ -131,12 +131,12 @@ module _ (k p : ℕ) where
             e₃,
             le-ltb (k + k * p + c) k (omega arith),
             le-ltb (k * p + c) (k * p) (omega arith),
-            lt-ltb c ((k - 1) * p) (cell_of_lt p (k - 1) t a first (omega arith) a-low a-high),
-            cell_of_div p t a first a-low a-high,
-            cell_of_mod p t a a-low a-high,
+            lt-ltb c ((k - 1) * p) (cell_of_lt p (k - 1) t a first (omega arith) a_low a_high),
+            cell_of_div p t a first a_low a_high,
+            cell_of_mod p t a a_low a_high,
           )
 
-    module _ (a b : ℕ) (a-low : 1 ≤ a) (a-high : a ≤ p) (b-low : 1 ≤ b) (b-high : b ≤ p) where
+    module _ (a b : ℕ) (a_low : 1 ≤ a) (a_high : a ≤ p) (b_low : 1 ≤ b) (b_high : b ≤ p) where
       y : ℕ
       y = cell_of p a b
 
@@ -146,7 +146,7 @@ module _ (k p : ℕ) where
 
       y_lt : y < p * p
       unfolding y
-      y_lt = cell_of_lt p p a b a-low a-high b-low b-high
+      y_lt = cell_of_lt p p a b a_low a_high b_low b_high
 
       pub due_external : due_key k p (pair_place k p t + cell_of p a b) ≡ key 5 t a b
       unfolding due_key pair_place z y
@@ -166,6 +166,6 @@ module _ (k p : ℕ) where
             le-ltb ((k - 1) * p + z) ((k - 1) * p) (omega arith),
             row,
             cell_mod (p * p) (t - 1) y y_lt,
-            cell_of_div p a b a-low b-low b-high,
-            cell_of_mod p a b b-low b-high,
+            cell_of_div p a b a_low b_low b_high,
+            cell_of_mod p a b b_low b_high,
           )

@@ -195,8 +195,8 @@ module _ (c : Chain) (first : ℕ) where
     pub rules_reach : (r p : ℕ) → 1 ≤ p → p ≤ c.board → module_rules c first last r p ≡ true → last ≤ reach c first
     unfolding module_rules
     rules_reach r p a b e =
-        let copies-and-memory = (and-true (copies_allowed c first last r && memory_fits c first last p) (within_limit c first last p) e).0 in
-        let memory = (and-true (copies_allowed c first last r) (memory_fits c first last p) copies-and-memory).1 in
+        let copies_and_memory = (and-true (copies_allowed c first last r && memory_fits c first last p) (within_limit c first last p) e).0 in
+        let memory = (and-true (copies_allowed c first last r) (memory_fits c first last p) copies_and_memory).1 in
         reach_memory.0 (record { cores = p; some = a; board = b; fits = memory })
 
 -- ---- the service

@@ -97,14 +97,14 @@ module _ (s w work : List ℕ) where
 
   -- ---- only the lengths of what was lent count
 
-  module _ (w' work' : List ℕ) (same : length w ≡ length w') (same-work : length work ≡ length work') where
+  module _ (w' work' : List ℕ) (same : length w ≡ length w') (same_work : length work ≡ length work') where
     begins_same : begins s w work ≡ begins s w' work'
     unfolding begins
-    begins_same = rw (same, same-work)
+    begins_same = rw (same, same_work)
 
     pub best_same : best_answer s w work ≡ best_answer s w' work'
     unfolding best_answer
-    best_same = rw (same, same-work)
+    best_same = rw (same, same_work)
 
     found_same : begins s w work ≡ true → (best_answer s w work).number ≡ 0 → (o : Option (List Module)) → best_plan (chain s w) ≡ o
         → take plan_bytes (best_bytes s w work) ≡ take plan_bytes (best_bytes s w' work')

@@ -46,12 +46,12 @@ module _ (s w work : List ℕ) where
   best_work_zero = lending.work_zero s w work
 
   -- of what the plan bytes and the work area held nothing counts, only their lengths: neither for the answer nor for a plan filled in
-  module _ (w' work' : List ℕ) (same : length w ≡ length w') (same-work : length work ≡ length work') where
+  module _ (w' work' : List ℕ) (same : length w ≡ length w') (same_work : length work ≡ length work') where
     pub best_answer_same : best_answer s w work ≡ best_answer s w' work'
-    best_answer_same = lending.best_same s w work w' work' same same-work
+    best_answer_same = lending.best_same s w work w' work' same same_work
 
     pub best_plan_same : (best_answer s w work).number ≡ 0 → take plan_bytes (best_bytes s w work) ≡ take plan_bytes (best_bytes s w' work')
-    best_plan_same = lending.plan_same s w work w' work' same same-work
+    best_plan_same = lending.plan_same s w work w' work' same same_work
 
 -- ---- Bench way
 

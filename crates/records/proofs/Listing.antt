@@ -151,10 +151,10 @@ module _ (k p : ℕ) where
         get_or_before tasks (executions ++ (internals ++ externals)) k length_tasks d (n - 1) h ∙ each_at k (λ t. key 2 t 0 0) d (n - 1) h
         ∙ simp (lt-ltb (n - 1) k h, last)
 
-    module _ (after-tasks : k ≤ m) where
+    module _ (after_tasks : k ≤ m) where
       from_executions : keys m ≡ get_or (executions ++ (internals ++ externals)) e d
       unfolding keys e
-      from_executions = get_d_past tasks (executions ++ (internals ++ externals)) k length_tasks d m after-tasks
+      from_executions = get_d_past tasks (executions ++ (internals ++ externals)) k length_tasks d m after_tasks
 
       execution_key : e < k * p → keys m ≡ due_key k p n
       unfolding due_key executions e m
@@ -163,12 +163,12 @@ module _ (k p : ℕ) where
           ∙ get_or_before executions (internals ++ externals) (k * p) length_executions d e h
           ∙ join_at p (λ t. each p (λ a. key 3 t a 0)) (λ t. length_each 0 p (λ a. key 3 t a 0)) d k e h
           ∙ each_at p (λ a. key 3 (e / p + 1) a 0) d (e % p) (mod-lt e (pos_of_lt_mul e k p h))
-          ∙ simp (le-ltb (n - 1) k after-tasks, lt-ltb (n - 1 - k) (k * p) h)
+          ∙ simp (le-ltb (n - 1) k after_tasks, lt-ltb (n - 1 - k) (k * p) h)
 
-      module _ (after-executions : k * p ≤ e) where
+      module _ (after_executions : k * p ≤ e) where
         from_internals : keys m ≡ get_or (internals ++ externals) t d
         unfolding t
-        from_internals = from_executions ∙ get_d_past executions (internals ++ externals) (k * p) length_executions d e after-executions
+        from_internals = from_executions ∙ get_d_past executions (internals ++ externals) (k * p) length_executions d e after_executions
 
         internal_key : t < (k - 1) * p → keys m ≡ due_key k p n
         unfolding due_key internals t e m
@@ -177,7 +177,7 @@ module _ (k p : ℕ) where
             ∙ get_or_before internals externals ((k - 1) * p) length_internals d t h
             ∙ join_at p (λ t. each p (λ a. key 4 t a 0)) (λ t. length_each 0 p (λ a. key 4 t a 0)) d (k - 1) t h
             ∙ each_at p (λ a. key 4 (t / p + 1) a 0) d (t % p) (mod-lt t (pos_of_lt_mul t (k - 1) p h))
-            ∙ simp (le-ltb (n - 1) k after-tasks, le-ltb (n - 1 - k) (k * p) after-executions, lt-ltb (n - 1 - k - k * p) ((k - 1) * p) h)
+            ∙ simp (le-ltb (n - 1) k after_tasks, le-ltb (n - 1 - k) (k * p) after_executions, lt-ltb (n - 1 - k - k * p) ((k - 1) * p) h)
 
         external_key : (k - 1) * p ≤ t → x < (k - 1) * (p * p) → keys m ≡ due_key k p n
         unfolding due_key externals square x t e m
@@ -187,7 +187,7 @@ module _ (k p : ℕ) where
             ∙ join_at (p * p) square (length_square p) d (k - 1) x h
             ∙ join_at p (λ a. each p (λ b. key 5 (x / (p * p) + 1) a b)) (λ a. length_each 0 p (λ b. key 5 (x / (p * p) + 1) a b)) d p (x % (p * p)) row
             ∙ each_at p (λ b. key 5 (x / (p * p) + 1) (x % (p * p) / p + 1) b) d (x % (p * p) % p) (mod-lt (x % (p * p)) (pos_of_lt_mul (x % (p * p)) p p row))
-            ∙ simp (le-ltb (n - 1) k after-tasks, le-ltb (n - 1 - k) (k * p) after-executions, le-ltb (n - 1 - k - k * p) ((k - 1) * p) l)
+            ∙ simp (le-ltb (n - 1) k after_tasks, le-ltb (n - 1 - k) (k * p) after_executions, le-ltb (n - 1 - k - k * p) ((k - 1) * p) l)
           where
             row : x % (p * p) < p * p
             row = mod-lt x (pos_of_lt_mul x (k - 1) (p * p) h)

@@ -73,7 +73,7 @@ module _ (c : Chain) (n : ℕ) where
 
   -- ---- the fewest cores of a rest, by words that hold the slacks
 
-  module _ (w : List ℕ) (filled : AllFilled c n w) (s t q e : ℕ) (some-task : 1 ≤ t) (inside : t < c.tasks) (one_core : 1 ≤ q) (sent : e ≡ transfer c t s q) where
+  module _ (w : List ℕ) (filled : AllFilled c n w) (s t q e : ℕ) (some_task : 1 ≤ t) (inside : t < c.tasks) (one_core : 1 ≤ q) (sent : e ≡ transfer c t s q) where
     -- too few cores are not enough
     short : (b : ℕ) → (q ≤ b → get_or w (slack_at t q b) 0 ≤ e) → b ≤ c.board → T (not (enough_on c n s t q b))
     short b h low = not_T (enough_on c n s t q b) (λ u. ⊎_elim
@@ -85,19 +85,19 @@ module _ (c : Chain) (n : ℕ) where
     need_here : (x : ℕ) → q ≤ x → x ≤ c.board + 1 → (x ≤ c.board → e < get_or w (slack_at t q x) 0) → ((b : ℕ) → q ≤ b → b < x → get_or w (slack_at t q b) 0 ≤ e)
         → x ≡ need_on c n s t q
     need_here x low high here before =
-        sym (need_is c.board (enough_on c n) s t q x some-task (omega arith)
+        sym (need_is c.board (enough_on c n) s t q x some_task (omega arith)
         (λ h. enough_slack c n s t q x (omega (arith, here h, filled t inside q x one_core low h)))
         (λ b h. short b (λ g. before b g h) (omega arith)))
 
   pub needed_is : (a : Board) (w : List ℕ) (s : ℕ) {t q e r : ℕ} → c.board ≡ a.cores → a.cores ≤ 32 → 13068 ≤ length w → c.tasks ≤ 12 → AllFilled c n w → 1 ≤ t → t < c.tasks → 1 ≤ q → q ≤ a.cores
       → e ≡ transfer c t s q → NeededBy a w t q e r → r ≡ need_on c n s t q
-  needed_is a w s {t} {q} {e} {r} board sized long tasks filled some-task inside one_core few sent needed =
+  needed_is a w s {t} {q} {e} {r} board sized long tasks filled some_task inside one_core few sent needed =
       let f = needed.first few sized (omega arith) in
-      need_here w filled s t q e some-task inside one_core sent r f.low (omega (arith, f.high)) (λ h. f.serves (omega arith)) f.none_before
+      need_here w filled s t q e some_task inside one_core sent r f.low (omega (arith, f.high)) (λ h. f.serves (omega arith)) f.none_before
 
   -- ---- the fewest cores of a whole plan
 
-  module _ (w : List ℕ) (filled : AllFilled c n w) (some-task : 1 ≤ c.tasks) where
+  module _ (w : List ℕ) (filled : AllFilled c n w) (some_task : 1 ≤ c.tasks) where
     slacked_some : (b : ℕ) → b ≤ c.board → Slacked w b → T (some (suc c.board) (λ q. enough_on c n 0 0 q b))
     slacked_some b low h =
         some_i (suc c.board) (λ q. enough_on c n 0 0 q b) h.q (omega (arith, h.cores_most))

@@ -66,7 +66,7 @@ module _ (X : Problem) where
       plan_weighs = omega (arith, (plan_is n feasible).fine.light, light_under n (plan X n) plan_keeps plan_within plan_light)
 
 module _ (X : Problem) (L : Laws X) where
-  -- a plan that keeps the board weighs less than the cap (the converse is on-board)
+  -- a plan that keeps the board weighs less than the cap (the converse is `on_board`)
   pub board_weight : (ms : List Module) → Keeps X ms → plan_weight X ms < cap X
   unfolding cap
   board_weight ms h = le_trans (L.level ms h) (mul-le-mul_left X.unit (omega (arith, h.1)))

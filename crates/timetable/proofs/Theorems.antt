@@ -45,16 +45,16 @@ module _ (c : Chain) (ms : List Module) (some : 1 ≤ length ms) (covered : cove
   pub stream_single : (bottleneck c ms).copies ≡ 1
   stream_single = streamed.bottleneck_single c ms some covered single
 
-  module _ (t : Schedule) (runs : Runs (stages c ms) t) (n : ℕ) (some-blocks : 1 ≤ n) where
+  module _ (t : Schedule) (runs : Runs (stages c ms) t) (n : ℕ) (some_blocks : 1 ≤ n) where
     -- block n ends a single block's time after n - 1 bottlenecks, to the tick
     pub stream_ends : through (stages c ms) t (length (stages c ms) - 1) n ≡ (n - 1) * (bottleneck c ms).response + block_time c ms
-    stream_ends = streamed.stream_ends c ms some covered single runs n some-blocks
+    stream_ends = streamed.stream_ends c ms some covered single runs n some_blocks
 
     -- so, in the request's words: "with bottleneck B and single-block time L, block n ends no sooner than n·B and no later than (n − 1)·B + L"
     pub stream_bounds : (n * (bottleneck c ms).response ≤ through (stages c ms) t (length (stages c ms) - 1) n)
         × (through (stages c ms) t (length (stages c ms) - 1) n ≤ (n - 1) * (bottleneck c ms).response + block_time c ms)
     stream_bounds =
-        omega (arith, stream_ends, streamed.bottlenecks n (bottleneck c ms).response (block_time c ms) some-blocks (streamed.bottleneck_alone c ms some covered single))
+        omega (arith, stream_ends, streamed.bottlenecks n (bottleneck c ms).response (block_time c ms) some_blocks (streamed.bottleneck_alone c ms some covered single))
 
 -- ---- the service, for all costs, plan bytes, counts and tables
 

@@ -58,8 +58,8 @@ enough_served c n s l q b u = ⊎_elim
 -- ---- over the copies: r are the fewest that are enough; the load is one of a single copy, and one of each of several, which carries what
 -- handing out costs (M-106)
 
-module _ {c : Chain} {s t q l base stay out : ℕ} {rep : Bool} (h : Loaded c s t q l base stay out rep) (n q' : ℕ) {sent r : ℕ} (is-sent : sent ≡ transfer c l q q')
-    (is-fewest : r ≡ fewest rep ((base + sent) * grain) ((base + sent) * grain + out * grain) n) (some : 1 ≤ q) where
+module _ {c : Chain} {s t q l base stay out : ℕ} {rep : Bool} (h : Loaded c s t q l base stay out rep) (n q' : ℕ) {sent r : ℕ} (is_sent : sent ≡ transfer c l q q')
+    (is_fewest : r ≡ fewest rep ((base + sent) * grain) ((base + sent) * grain + out * grain) n) (some : 1 ≤ q) where
   -- its load in one copy, and in several
   abbrev load : ℕ
   load = (base + sent) * grain
@@ -75,26 +75,26 @@ module _ {c : Chain} {s t q l base stay out : ℕ} {rep : Bool} (h : Loaded c s 
 
   loads : (i : ℕ) → response c s (t + 1) l i q q' * grain ≡ load_of load several i
   loads i =
-      let one : response c s (t + 1) l 1 q q' * grain ≡ load = omega (arith, response_parts c s t l 1 q q', handed_none c 1 (omega arith), h.taken, h.stays, is-sent) in
-      let two : response c s (t + 1) l 2 q q' * grain ≡ several = omega (arith, response_parts c s t l 2 q q', h.taken, h.stays, h.handing, is-sent) in
+      let one : response c s (t + 1) l 1 q q' * grain ≡ load = omega (arith, response_parts c s t l 1 q q', handed_none c 1 (omega arith), h.taken, h.stays, is_sent) in
+      let two : response c s (t + 1) l 2 q q' * grain ≡ several = omega (arith, response_parts c s t l 2 q q', h.taken, h.stays, h.handing, is_sent) in
       copies_load c s t l q q' i ∙ rw (one, two)
 
   -- where they have room, they fit
   pub fewest_fits : 1 ≤ r → s + r * q + q' ≤ c.board → T (fits_at (problem c) n s t l r q q')
   fewest_fits a room =
       let least = fewest rep load several n in
-      subst (λ i. T (fits_at (problem c) n s t l i q q')) (sym is-fewest)
-      (at_join (problem c) n s t q l q' true rep load several allows loads h.reached.later (reached_inside h.reached) some least (rw is-fewest at a) tt
-      (fewest_enough rep load several n rises (rw is-fewest at a)) (rw is-fewest at room))
+      subst (λ i. T (fits_at (problem c) n s t l i q q')) (sym is_fewest)
+      (at_join (problem c) n s t q l q' true rep load several allows loads h.reached.later (reached_inside h.reached) some least (rw is_fewest at a) tt
+      (fewest_enough rep load several n rises (rw is_fewest at a)) (rw is_fewest at room))
 
   -- where some copies may come, they may, and are no more
   pub fewest_spares : (i : ℕ) → T (sparing_on c n s t l i q q') → T (sparing_on c n s t l r q q') × (r ≤ i)
   fewest_spares i u =
       let f = spares_facts c n s t l i q q' u in
       let (fits, few) = fewest_fit (problem c) n s t q l q' true rep load several allows loads h.reached.later (reached_inside h.reached) some rises i f.tight in
-      let low : r ≤ i = rw is-fewest few in
+      let low : r ≤ i = rw is_fewest few in
       let cores : r * q ≤ i * q = mul-le-mul_right q low in (
-        sparing_i (problem c) n (enough_on c n) s t l r q q' (subst (λ i. T (fits_at (problem c) n s t l i q q')) (sym is-fewest) fits) (omega (arith, f.few))
+        sparing_i (problem c) n (enough_on c n) s t l r q q' (subst (λ i. T (fits_at (problem c) n s t l i q q')) (sym is_fewest) fits) (omega (arith, f.few))
             (enough_fewer c n q l q' (need_on c n s t q - i * q) (need_on c n s t q - r * q) (omega arith) f.enough),
         low,
       )
@@ -119,7 +119,7 @@ small_paid out r {x} e = ⊎_elim
     (λ (h : r ≤ 1). let d : x ≡ 0 = rw (le-ltb 1 r h) at e in omega arith)
     (lt_or_le 1 r)
 
-module _ {c : Chain} {s t q l base stay out : ℕ} {rep : Bool} (h : Loaded c s t q l base stay out rep) (n q' : ℕ) {sent r : ℕ} (is-sent : sent ≡ transfer c l q q')
+module _ {c : Chain} {s t q l base stay out : ℕ} {rep : Bool} (h : Loaded c s t q l base stay out rep) (n q' : ℕ) {sent r : ℕ} (is_sent : sent ≡ transfer c l q q')
     (fewest : FewestCopies c n s t q l q' r) where
   -- what they pay of the cost of handing out
   pays : cond (ltb 1 r) out 0 ≡ handed c r
@@ -127,7 +127,7 @@ module _ {c : Chain} {s t q l base stay out : ℕ} {rep : Bool} (h : Loaded c s 
   pays = rw h.handing
 
   pub priced : {own paid : ℕ} → paid ≡ cond (ltb 1 r) out 0 → own ≡ unit * (r * q) + (stay + sent + paid) → own ≡ price c t l r q q'
-  priced e d = omega (arith, d, e, passage_parts c (t + 1) l r q q', h.stays, pays, is-sent)
+  priced e d = omega (arith, d, e, passage_parts c (t + 1) l r q q', h.stays, pays, is_sent)
 
   module _ (R : Table) where
     -- none may come

@@ -211,7 +211,7 @@ module _ (c : Chain) (n s t q : ℕ) where
 
   -- ---- one module before one of q' cores, by its fewest copies
 
-  module _ {l base stay out : ℕ} {rep : Bool} (h : Loaded c s t q l base stay out rep) (q' : ℕ) {sent r : ℕ} (is-sent : sent ≡ transfer c l q q') (fewest : FewestCopies c n s t q l q' r) where
+  module _ {l base stay out : ℕ} {rep : Bool} (h : Loaded c s t q l base stay out rep) (q' : ℕ) {sent r : ℕ} (is_sent : sent ≡ transfer c l q q') (fewest : FewestCopies c n s t q l q' r) where
     -- this one
     abbrev this : Which
     this i j = (i ≡ l) × (j ≡ q')
@@ -223,24 +223,24 @@ module _ (c : Chain) (n s t q : ℕ) where
     pub looked_unfit : (w : List ℕ) {v : ℕ} → v ≡ no_plan c.board → r < 1 → Looked c n s t q w w (λ i j. (i ≡ l) × (j ≡ q')) v least_of
     looked_unfit w e none =
         looked_none w this least_of e (λ i k j a u. omega (arith, fewest.fewer k (subst (λ x. T (sparing_on c n s t l k q x)) a.1 (subst (λ x. T (sparing_on c n s t x k q j)) a.0 u))))
-        (λ R. e ∙ over_none h n q' is-sent fewest R (omega arith))
+        (λ R. e ∙ over_none h n q' is_sent fewest R (omega arith))
 
     -- the least of none and its price with the rest
-    module _ (some : 1 ≤ r) (own rest : ℕ) {v : ℕ} (is-own : own ≡ price c t l r q q') (is-least : v ≡ lesser (no_plan c.board) (own + rest)) where
+    module _ (some : 1 ≤ r) (own rest : ℕ) {v : ℕ} (is_own : own ≡ price c t l r q q') (is_least : v ≡ lesser (no_plan c.board) (own + rest)) where
       facts : Spares c n s t l r q q'
       facts = spares_facts c n s t l r q q' (fewest.comes some)
 
       positive : 1 ≤ own
-      positive = omega (arith, is-own, mul-le-mul {n₁ = 1} {m₁ = 1} facts.fits.one_copy facts.fits.one_core)
+      positive = omega (arith, is_own, mul-le-mul {n₁ = 1} {m₁ = 1} facts.fits.one_copy facts.fits.one_core)
 
       v_some : 1 ≤ v
       v_some = ⊎_elim (λ e. omega arith) (λ e. omega (arith, positive)) (lesser_is (no_plan c.board) (own + rest))
 
       v_most : v ≤ no_plan c.board
-      v_most = omega (arith, is-least, lesser_le (no_plan c.board) (own + rest))
+      v_most = omega (arith, is_least, lesser_le (no_plan c.board) (own + rest))
 
       v_is : (R : Table) → rest ≡ R q l q' → v ≡ least_of R
-      v_is R e = is-least ∙ rw (is-own, e) (over_some h n q' is-sent fewest R some)
+      v_is R e = is_least ∙ rw (is_own, e) (over_some h n q' is_sent fewest R some)
 
       -- behind the last task nothing is marked
       pub looked_end : (w : List ℕ) → l ≡ c.tasks → rest ≡ 0 → Looked c n s t q w w (λ i j. (i ≡ l) × (j ≡ q')) v least_of

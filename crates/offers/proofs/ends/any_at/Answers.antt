@@ -10,8 +10,8 @@ use Rattle.offers.proofs.Offering.{best_stop}
 use Rattle.offers.proofs.ends.any_at.Goals as goal
 
 -- copies of a core at least that have room are no more than the cores
-low-copies : (r q b : ℕ) → 1 ≤ q → r * q ≤ b → b ≤ 32 → r ≤ 32
-low-copies r q b p h s = omega (arith, mul-le-mul (le_refl r) p)
+low_copies : (r q b : ℕ) → 1 ≤ q → r * q ≤ b → b ≤ 32 → r ≤ 32
+low_copies r q b p h s = omega (arith, mul-le-mul (le_refl r) p)
 
 pub overflow_sub-most : goal.overflow_sub-most
 overflow_sub-most c = omega arith
@@ -43,7 +43,7 @@ pub beyond-v-requires : goal.beyond-v-requires
 beyond-v-requires c =
     let o = c.loop-used in
     let a = c.args in
-    let few = low-copies o.r a.q a.b (omega arith) (omega arith) (omega arith) in
+    let few = low_copies o.r a.q a.b (omega arith) (omega arith) (omega arith) in
     omega (arith, mul-le-mul {n₁ = a.n} {m₁ = o.r} {n₂ = top_threshold} {m₂ = 32} (omega arith) few)
 
 pub overflow_add-r : goal.overflow_add-r

@@ -10,8 +10,8 @@ use Rattle.offers.specs.Words.{FirstServed}
 use Rattle.offers.proofs.ends.least_rest.Goals as goal
 use Rattle.offers.proofs.ends.least_rest.Invariants.{Asked}
 
-asked-more : (w : List ℕ) (l least q r : ℕ) → q < least → FirstServed w (l * 1089 + q * 33) q (least - 1) 0 r → Asked w l least q → Asked w l r (q + 1)
-asked-more w l least q r h first asked p b some low u v = ⊎_elim
+asked_more : (w : List ℕ) (l least q r : ℕ) → q < least → FirstServed w (l * 1089 + q * 33) q (least - 1) 0 r → Asked w l least q → Asked w l r (q + 1)
+asked_more w l least q r h first asked p b some low u v = ⊎_elim
     (λ d. asked p b some d u (omega (arith, first.high)))
     (λ d. let e : p ≡ q = omega arith in rw e (omega (arith, first.none_before b (omega arith) v)))
     (lt_or_le p q)
@@ -68,7 +68,7 @@ loop-q-preserved c =
       omega arith,
       omega (arith, first.ensures.low),
       omega (arith, first.ensures.high),
-      asked-more a.work.now a.l o.least o.q first.result (omega arith) first.ensures o.invariant.3,
+      asked_more a.work.now a.l o.least o.q first.result (omega arith) first.ensures o.invariant.3,
     )
 
 pub returns : goal.returns

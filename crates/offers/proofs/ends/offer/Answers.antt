@@ -14,8 +14,8 @@ use Rattle.offers.proofs.Offering.{one_bare, any_bare}
 use Rattle.offers.proofs.ends.offer.Goals as goal
 use Rattle.offers.proofs.ends.offer.Invariants.{Both}
 
-both-more : (w : List ℕ) (q b x y : ℕ) (f g : ℕ → ℕ) → 66 ≤ length w → b ≤ 32 → Both w q b f g → x ≡ f b → y ≡ g b → Both (set (set w b x) (33 + b) y) q (b + 1) f g
-both-more w q b x y f g long low h ex ey = record {
+both_more : (w : List ℕ) (q b x y : ℕ) (f g : ℕ → ℕ) → 66 ≤ length w → b ≤ 32 → Both w q b f g → x ≡ f b → y ≡ g b → Both (set (set w b x) (33 + b) y) q (b + 1) f g
+both_more w q b x y f g long low h ex ey = record {
   one = λ j p l. get_or-set_other (set w b x) (33 + b) j y 0 (omega arith) ∙ ⊎_elim
       (λ d. get_or-set_other w b j x 0 (omega arith) ∙ h.one j p d)
       (λ d. let e : j ≡ b = omega arith in rw e (get_or-set_same w b x 0 (omega arith) ∙ ex))
@@ -27,8 +27,8 @@ both-more w q b x y f g long low h ex ey = record {
 }
 
 -- a list of zeros
-zeros-at : (w : List ℕ) (j : ℕ) → w ≡ replicate 66 0 → j < 66 → get_or w j 0 ≡ 0
-zeros-at w j e h = ap (λ x. get_or x j 0) e ∙ get_or-replicate {A = ℕ} 66 j 0 0 h
+zeros_at : (w : List ℕ) (j : ℕ) → w ≡ replicate 66 0 → j < 66 → get_or w j 0 ≡ 0
+zeros_at w j e h = ap (λ x. get_or x j 0) e ∙ get_or-replicate {A = ℕ} 66 j 0 0 h
 
 pub overflow_add-b : goal.overflow_add-b
 overflow_add-b c = omega arith
@@ -38,8 +38,8 @@ loop-b-init c =
     let a = c.args in (
       c.requires.5,
       λ bare blank. record {
-        one = λ j p l. zeros-at a.left.now j blank (omega arith) ∙ sym (one_bare a.n a.extra (row_of a.row.now) 0 a.q j a.low c.requires.0 c.requires.1 (omega arith) bare l);
-        any = λ j p l. zeros-at a.left.now (33 + j) blank (omega arith) ∙ sym (any_bare a.n a.extra (row_of a.row.now) 0 a.q j a.low c.requires.0 c.requires.1 (omega arith) bare l);
+        one = λ j p l. zeros_at a.left.now j blank (omega arith) ∙ sym (one_bare a.n a.extra (row_of a.row.now) 0 a.q j a.low c.requires.0 c.requires.1 (omega arith) bare l);
+        any = λ j p l. zeros_at a.left.now (33 + j) blank (omega arith) ∙ sym (any_bare a.n a.extra (row_of a.row.now) 0 a.q j a.low c.requires.0 c.requires.1 (omega arith) bare l);
       },
       le_refl _,
     )
@@ -77,7 +77,7 @@ loop-b-preserved c =
     let x = c.one_at-x in
     let y = c.any_at-y in (
       length-set (set o.left o.b x.result) (33 + o.b) y.result ∙ length-set o.left o.b x.result ∙ o.invariant.0,
-      λ bare blank. both-more o.left a.q o.b x.result y.result _ _ (omega arith) (omega arith) (o.invariant.1 bare blank) (x.ensures a.extra) (y.ensures bare),
+      λ bare blank. both_more o.left a.q o.b x.result y.result _ _ (omega arith) (omega arith) (o.invariant.1 bare blank) (x.ensures a.extra) (y.ensures bare),
       omega arith,
     )
 

@@ -17,20 +17,20 @@ use Rattle.offers.specs.Words.{NoneBelow}
 use Rattle.offers.proofs.ends.settle.Goals as goal
 
 -- the least of the entries up to c, as the loop has it
-lowest-is : (f : ℕ → ℕ) (c : ℕ) → least none (c + 1) f ≡ lowest none f c
+lowest_is : (f : ℕ → ℕ) (c : ℕ) → least none (c + 1) f ≡ lowest none f c
 unfolding lowest
-lowest-is f c = rw add-one
+lowest_is f c = rw add-one
 
 -- it is none where all are
-none-lowest : (row : List ℕ) (from c : ℕ) → NoneBelow row from → c ≤ from → none ≡ least none c (λ j. get_or row j 0)
-none-lowest row from c bare h = sym (least_none none c (λ j. get_or row j 0) (λ i u. omega (arith, bare i (omega arith))))
+none_lowest : (row : List ℕ) (from c : ℕ) → NoneBelow row from → c ≤ from → none ≡ least none c (λ j. get_or row j 0)
+none_lowest row from c bare h = sym (least_none none c (λ j. get_or row j 0) (λ i u. omega (arith, bare i (omega arith))))
 
 pub loop-c-init : goal.loop-c-init
 loop-c-init c =
     let a = c.args in (
       refl,
-      λ bare. none-lowest a.row.now a.from a.from bare (le_refl _),
-      λ bare j h. bare j h ∙ none-lowest a.row.now a.from (j + 1) bare (omega arith) ∙ lowest-is (λ k. get_or a.row.now k 0) j,
+      λ bare. none_lowest a.row.now a.from a.from bare (le_refl _),
+      λ bare j h. bare j h ∙ none_lowest a.row.now a.from (j + 1) bare (omega arith) ∙ lowest_is (λ k. get_or a.row.now k 0) j,
       λ j h. refl,
     )
 
@@ -60,7 +60,7 @@ loop-c-preserved c =
     let i = o.invariant in
     let long : o.c < length o.row = omega arith in
     let next : NoneBelow row₀ _ → v ≡ least none (o.c + 1) (λ j. get_or row₀ j 0) = λ bare. least_more none o.c (λ j. get_or row₀ j 0) o.m v (i.1 bare) (c.lesser-m.ensures ∙ rw (i.3 o.c (le_refl _))) in
-    (length-set o.row o.c v ∙ i.0, next, λ bare j h. ⊎_elim (λ d. get_or-set_other o.row o.c j v 0 (omega arith) ∙ i.2 bare j d) (λ d. let e : j ≡ o.c = omega arith in rw e (get_or-set_same o.row o.c v 0 long ∙ next bare ∙ lowest-is (λ k. get_or row₀ k 0) o.c)) (lt_or_le j o.c), λ j h. get_or-set_other o.row o.c j v 0 (omega arith) ∙ i.3 j (omega arith))
+    (length-set o.row o.c v ∙ i.0, next, λ bare j h. ⊎_elim (λ d. get_or-set_other o.row o.c j v 0 (omega arith) ∙ i.2 bare j d) (λ d. let e : j ≡ o.c = omega arith in rw e (get_or-set_same o.row o.c v 0 long ∙ next bare ∙ lowest_is (λ k. get_or row₀ k 0) o.c)) (lt_or_le j o.c), λ j h. get_or-set_other o.row o.c j v 0 (omega arith) ∙ i.3 j (omega arith))
 
 pub shape_of-row : goal.shape_of-row
 shape_of-row c = c.loop-c.invariant.0

@@ -11,8 +11,8 @@ use Rattle.offers.proofs.leave.left_from.Goals as goal
 
 pub returns-then-not-askable : goal.returns-then-not-askable
 returns-then-not-askable c =
-    let not-asked = c.askable.ensures.1 (c.if-not-askable.true) in
-    record { high = omega arith; made = λ ask. absurd (not-asked ask); out = λ h. (refl, refl) }
+    let not_asked = c.askable.ensures.1 (c.if-not-askable.true) in
+    record { high = omega arith; made = λ ask. absurd (not_asked ask); out = λ h. (refl, refl) }
 
 pub cheapest-requires : goal.cheapest-requires
 cheapest-requires c =

@@ -18,8 +18,8 @@ use Rattle.threshold.proofs.fill.raise.Goals as goal
 use Rattle.threshold.proofs.fill.raise.Invariants.{Passed}
 
 -- what is left beside a capped body is what is left beside the body
-beside-capped : (x own : ℕ) → x ≤ none → x - cond (leb own none) own none ≡ x - own
-beside-capped x own h = ⊎_elim
+beside_capped : (x own : ℕ) → x ≤ none → x - cond (leb own none) own none ≡ x - own
+beside_capped x own h = ⊎_elim
     (λ d. rw (lt-leb own none d) (omega arith))
     (λ d. rw (le-leb own none d) (omega arith))
     (lt_or_le none own)
@@ -80,7 +80,7 @@ loop-b-preserved c =
     let o = c.loop-b in
     let a = c.args in
     let left = c.beside-v.ensures in
-    passed_more a.work.now o.work (λ j. get_or a.left.now (a.from + j) 0) a.at a.own a.low a.high o.b c.larger.result (omega arith) (omega arith) o.invariant (c.larger.ensures ∙ ap (larger _) (left.0 ∙ ap (λ (x : ℕ). get_or a.left.now (a.from + o.b) 0 - x) c.capped-taken.ensures ∙ beside-capped _ a.own left.1))
+    passed_more a.work.now o.work (λ j. get_or a.left.now (a.from + j) 0) a.at a.own a.low a.high o.b c.larger.result (omega arith) (omega arith) o.invariant (c.larger.ensures ∙ ap (larger _) (left.0 ∙ ap (λ (x : ℕ). get_or a.left.now (a.from + o.b) 0 - x) c.capped-taken.ensures ∙ beside_capped _ a.own left.1))
 
 pub shape_of-work : goal.shape_of-work
 shape_of-work c = c.loop-b.invariant.long

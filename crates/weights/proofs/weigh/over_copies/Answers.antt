@@ -51,17 +51,17 @@ returns c =
     let p = c.paid in
     let some : 1 ≤ r.result = omega (arith, c.if-r-lt1.false) in
     let own = unit * (r.result * x.cores) + (a.stay + z.result + p.result) in
-    let is-own = priced c.requires.4 a.n a.q2 z.ensures r.ensures {own = own} p.ensures refl in
+    let is_own = priced c.requires.4 a.n a.q2 z.ensures r.ensures {own = own} p.ensures refl in
     let rest = c.weight_after-rest.result in
     let least : c.at_most.result ≡ lesser (no_plan a.board.cores) (own + rest) = rw c.no_plan-none.ensures.0 at c.at_most.ensures in
     let after = c.weight_after-rest.ensures in
     ⊎_elim
     (λ (e : a.l ≡ k.tasks).
     let w = after.0 e in
-    rw w.1 (looked_end k a.n x.before x.from x.cores c.requires.4 a.q2 z.ensures r.ensures some own rest is-own least a.work.now e w.0))
+    rw w.1 (looked_end k a.n x.before x.from x.cores c.requires.4 a.q2 z.ensures r.ensures some own rest is_own least a.work.now e w.0))
     (λ (e : a.l < k.tasks).
     let w = after.1 e in
     let f = spares_facts k a.n x.before x.from a.l r.result x.cores a.q2 (r.ensures.comes some) in
-    rw w.1 (looked_mark k a.n x.before x.from x.cores c.requires.4 a.q2 z.ensures r.ensures some own rest is-own least a.work.now
+    rw w.1 (looked_mark k a.n x.before x.from x.cores c.requires.4 a.q2 z.ensures r.ensures some own rest is_own least a.work.now
     (omega (arith, c.requires.0.area.long, c.requires.0.area.sized.tasks_most, c.requires.0.area.sized.cores_most, f.goes e, f.beside)) e w.0))
     (eq-or-lt_of_le (reached_inside c.requires.4.reached))
