@@ -114,6 +114,8 @@ def clashes(to):
 
 
 def main(argv):
+    if argv not in ([], ["--list"]):
+        sys.exit("usage: tools/respell.py [--list]")
     to = renames()
     if argv == ["--list"]:
         for old, new in to.items():
