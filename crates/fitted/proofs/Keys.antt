@@ -12,7 +12,7 @@ use borrow.Author.Tests.{lt-ltb, le-ltb, eq-eqb, ne_eqb}
 use Rattle.records.specs.declared.Key.{Key}
 use Rattle.records.specs.Costs.{key, each}
 use Rattle.records.proofs.Cases.{lt_or_le, true_or_false, pos_of_lt_mul}
-use Rattle.records.proofs.Listing.{get_or_before, get_d_past, length_each, each_at, length_join, join_at}
+use Rattle.records.proofs.Listing.{get_or_before, get_or_past, length_each, each_at, length_join, join_at}
 use Rattle.fitted.specs.Fill.{law_count, law_keys, law_key, cost_keys, cost_count, a_of, b_of}
 
 -- stands where a list has no key
@@ -52,12 +52,12 @@ module _ (k : ℕ) where
   unfolding law_keys law_key executions internals externals
   law_key_at some n h = ⊎_elim
       (λ l. get_or_before executions (internals ++ externals) k long_executions no_key n l ∙ each_at k (λ t. key 3 t 0 0) no_key n l ∙ simp (lt-ltb n k l))
-      (λ g. get_d_past executions (internals ++ externals) k long_executions no_key n g ∙ ⊎_elim
+      (λ g. get_or_past executions (internals ++ externals) k long_executions no_key n g ∙ ⊎_elim
       (λ (l : n - k < k - 1). get_or_before internals externals (k - 1) long_internals no_key (n - k) l ∙ each_at (k - 1) (λ t. key 4 t 0 0) no_key (n - k) l
       ∙ simp (le-ltb n k g, lt-ltb n (2 * k - 1) (omega arith)))
       (λ (m : k - 1 ≤ n - k).
       let e : n - k - (k - 1) + 1 ≡ n - (2 * k - 1) + 1 = omega arith in
-      get_d_past internals externals (k - 1) long_internals no_key (n - k) m ∙ each_at (k - 1) (λ t. key 5 t 0 0) no_key (n - k - (k - 1)) (omega arith)
+      get_or_past internals externals (k - 1) long_internals no_key (n - k) m ∙ each_at (k - 1) (λ t. key 5 t 0 0) no_key (n - k - (k - 1)) (omega arith)
       ∙ simp (le-ltb n k g, le-ltb n (2 * k - 1) (omega arith), e))
       (lt_or_le (n - k) (k - 1)))
       (lt_or_le n k)

@@ -41,7 +41,9 @@ pub fn module_at(plan: &[u8], i: u32) -> Module
     }
 }
 
-// How many modules the plan bytes of a chain of k tasks say: the records up to the one whose last task is k.
+// How many modules the plan bytes of a chain of k tasks say: the records up to the one whose last task is k. Many functions ask it once, and none
+// in a loop over costs, so it stands in the library once.
+#[inline(never)]
 pub fn module_count(plan: &[u8], k: u8) -> u32
     ensures { (result ≡ module_count plan.now k) × (result ≤ most_modules) }
 {

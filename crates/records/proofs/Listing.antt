@@ -20,8 +20,8 @@ module _ (xs ys : List Key) (w : ℕ) (long : length xs ≡ w) (d : Key) (n : �
   pub get_or_before : n < w → get_or (xs ++ ys) n d ≡ get_or xs n d
   get_or_before h = get_or-append xs ys d n (omega arith)
 
-  pub get_d_past : w ≤ n → get_or (xs ++ ys) n d ≡ get_or ys (n - w) d
-  get_d_past h =
+  pub get_or_past : w ≤ n → get_or (xs ++ ys) n d ≡ get_or ys (n - w) d
+  get_or_past h =
       let e : n ≡ length xs + (n - w) = omega arith in
       ap (λ (m : ℕ). get_or (xs ++ ys) m d) e ∙ get_or-append-add xs ys (n - w) d
 
@@ -64,7 +64,7 @@ module _ (w : ℕ) (f : ℕ → List Key) (long : (t : ℕ) → length (f t) ≡
       later : w ≤ j → get_or (join_from (i + 1) n f) (j - w) d ≡ get_or (f (i + 1 + (j - w) / w + 1)) ((j - w) % w) d → get_or (join_from i (suc n) f) j d ≡ get_or (f (i + j / w + 1)) (j % w) d
       later l rest =
           let e : i + 1 + (j - w) / w + 1 ≡ i + j / w + 1 = omega (arith, div-eq-sub-div p l) in
-          get_d_past (f (i + 1)) (join_from (i + 1) n f) w (long (i + 1)) d j l ∙ rest ∙ rw (mod-eq-sub-mod l, e)
+          get_or_past (f (i + 1)) (join_from (i + 1) n f) w (long (i + 1)) d j l ∙ rest ∙ rw (mod-eq-sub-mod l, e)
 
   pub join_at : (d : Key) (n j : ℕ) → j < n * w → get_or (join n f) j d ≡ get_or (f (j / w + 1)) (j % w) d
   join_at d n j h =
@@ -154,7 +154,7 @@ module _ (k p : ℕ) where
     module _ (after_tasks : k ≤ m) where
       from_executions : keys m ≡ get_or (executions ++ (internals ++ externals)) e d
       unfolding keys e
-      from_executions = get_d_past tasks (executions ++ (internals ++ externals)) k length_tasks d m after_tasks
+      from_executions = get_or_past tasks (executions ++ (internals ++ externals)) k length_tasks d m after_tasks
 
       execution_key : e < k * p → keys m ≡ due_key k p n
       unfolding due_key executions e m
@@ -168,7 +168,7 @@ module _ (k p : ℕ) where
       module _ (after_executions : k * p ≤ e) where
         from_internals : keys m ≡ get_or (internals ++ externals) t d
         unfolding t
-        from_internals = from_executions ∙ get_d_past executions (internals ++ externals) (k * p) length_executions d e after_executions
+        from_internals = from_executions ∙ get_or_past executions (internals ++ externals) (k * p) length_executions d e after_executions
 
         internal_key : t < (k - 1) * p → keys m ≡ due_key k p n
         unfolding due_key internals t e m
@@ -183,7 +183,7 @@ module _ (k p : ℕ) where
         unfolding due_key externals square x t e m
         external_key l h =
             from_internals
-            ∙ get_d_past internals externals ((k - 1) * p) length_internals d t l
+            ∙ get_or_past internals externals ((k - 1) * p) length_internals d t l
             ∙ join_at (p * p) square (length_square p) d (k - 1) x h
             ∙ join_at p (λ a. each p (λ b. key 5 (x / (p * p) + 1) a b)) (λ a. length_each 0 p (λ b. key 5 (x / (p * p) + 1) a b)) d p (x % (p * p)) row
             ∙ each_at p (λ b. key 5 (x / (p * p) + 1) (x % (p * p) / p + 1) b) d (x % (p * p) % p) (mod-lt (x % (p * p)) (pos_of_lt_mul (x % (p * p)) p p row))
