@@ -1,4 +1,3 @@
-pub mod Counted
 pub mod Digits
 pub mod Examples
 pub mod Reported

@@ -4,10 +4,10 @@ use mathlib.Core.List.{List, [], ◌++◌}
 use Prim.Native.Nat.{ℕ, ◌+◌, min}
 use native.Mathlib.Numerals.{add-one}
 use borrow.Author.Tests.{eq-eqb, ne_eqb}
-use Rattle.records.specs.Costs.{read_costs}
+use Rattle.records.specs.Costs.{board_in, read_costs}
 use Rattle.modules.specs.Model.{Chain, chain_of}
 use Rattle.layout.specs.Layout.{most_modules, record_of, modules_of}
-use Rattle.figures.specs.declared.Answer.{Answer}
+use Rattle.figures.specs.declared.answer.Answer.{Answer}
 use Rattle.figures.specs.Plan.{response_at}
 use Rattle.console.specs.Text.{module_line, slowest_line, refused_line, lines_of, module_lines, report_text}
 
@@ -25,7 +25,7 @@ lines_more c w i = rw (add-one i) (refl)
 -- ---- a plan, or a refusal
 
 pub report_plan : (s : List ℕ) (a : Answer) (w : List ℕ) → a.number ≡ 0
-    → report_text s a w ≡ module_lines (chain_of s (read_costs s).board) w (min a.modules most_modules) ++ slowest_line a
+    → report_text s a w ≡ module_lines (chain_of s (board_in (read_costs s))) w (min a.modules most_modules) ++ slowest_line a
 unfolding report_text
 report_plan s a w e = rw (eq-eqb a.number 0 e) (refl)
 

@@ -1,20 +1,20 @@
 -- The text of an answer (document 01, "A small dock", the program `plan`), as bytes in ASCII. Assumes nothing.
-use Rattle.std.specs.Prelude.{ℕ, zero, suc, ◌+◌, ◌/◌, ◌%◌, min, List, [], ◌∷◌, ◌++◌, cond, take, ltb, eqb}
+use Rattle.std.specs.Prelude.{ℕ, zero, suc, ◌+◌, ◌/◌, ◌%◌, min, List, [], ◌∷◌, ◌++◌, cond, ltb, eqb}
 use Prim.Native.Char.{code}
 use Prim.Native.String.{String}
 use Prim.Native.String.{[] as no_words, ◌∷◌ as ◌then◌}
-use Rattle.records.specs.Costs.{read_costs}
+use Rattle.records.specs.Costs.{board_in, read_costs}
 use Rattle.modules.specs.declared.Module.{Module}
 use Rattle.modules.specs.Model.{Chain, chain_of}
 use Rattle.layout.specs.Layout.{most_modules, record_of, modules_of}
-use Rattle.figures.specs.declared.Answer.{Answer}
+use Rattle.figures.specs.declared.answer.Answer.{Answer}
 use Rattle.figures.specs.Plan.{response_at}
 use Rattle.console.specs.Room.{number_room}
-use Rattle.console.specs.declared.Text.{Text}
+use Rattle.arrayvec.specs.ArrayVec.{ArrayVec}
 
 -- the bytes of a text
-unfoldable pub text_of : Text → List ℕ
-text_of t = take t.length t.bytes
+abbrev pub text_of : ArrayVec ℕ → List ℕ
+text_of t = t.items
 
 -- the bytes of words as they are written
 abbrev pub ascii : String → List ℕ
@@ -74,5 +74,5 @@ module_lines c w n = lines_of (λ i. module_line (record_of w i) (response_at c 
 -- the answer a on the costs s, with the plan bytes w: each of its modules and the slowest, or the refusal
 unfoldable pub report_text : List ℕ → Answer → List ℕ → List ℕ
 report_text s a w =
-    let c = chain_of s (read_costs s).board in
+    let c = chain_of s (board_in (read_costs s)) in
     cond (eqb a.number 0) (module_lines c w (min a.modules most_modules) ++ slowest_line a) (refused_line a)

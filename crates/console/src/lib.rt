@@ -7,10 +7,12 @@ mod intake;
 mod lines;
 mod words;
 
+use arrayvec::ArrayVec;
 pub use intake::take_in;
 pub use lines::{refused, report, too_long};
 
-// What came on standard input: how many bytes the file took, and whether more came than it holds.
+// What came on standard input: how many bytes the file took, and whether more came than it holds. The length stands beside the flag
+// because `take_in` promises it in both cases.
 #[derive(Clone, Copy)]
 pub struct Input {
     pub length: usize,
@@ -20,9 +22,5 @@ pub struct Input {
 // The bytes that a text has room for: more than twelve modules and the slowest take.
 const ROOM: usize = 2048;
 
-// A text: so many of the bytes, from the first on. What lies behind them is no part of it.
-#[derive(Clone, Copy)]
-pub struct Text {
-    pub bytes: [u8; ROOM],
-    pub length: usize,
-}
+// A text.
+pub type Text = ArrayVec<u8, ROOM>;

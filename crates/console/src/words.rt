@@ -1,63 +1,46 @@
-// A text, piece by piece. Each function but `blank` answers a text with one piece more behind it, and asks its caller for the room.
-ghost use Rattle.std.specs.Prelude.{◌≡◌, [], ◌++◌, ◌+◌, ◌≤◌, length};
+// A text, piece by piece. Each function puts one piece more behind a text, and asks its caller for the room.
+ghost use Rattle.std.specs.Prelude.{◌≡◌, ◌++◌, ◌+◌, ◌≤◌, length};
+ghost use Rattle.arrayvec.specs.ArrayVec.{array_vec_len};
 ghost use Rattle.console.specs.Text.{text_of, decimal, spaced as spaced_word, ended as ended_word};
 ghost use Rattle.console.specs.Room.{room, number_room, word_room};
 
-use crate::{ROOM, Text};
+use crate::Text;
 
 // The most digits of a number of 64 bits.
 const DIGITS: usize = 20;
 
-// The empty text.
-pub(crate) fn blank() -> Text
-    ensures { (text_of result ≡ []) × (result.length ≡ 0) }
+// Puts these bytes behind the text.
+pub(crate) fn put(text: &mut Text, words: &[u8])
+    requires { array_vec_len text.old + length words.now ≤ room }
+    ensures { (text_of text.new ≡ text_of text.old ++ words.now) × (array_vec_len text.new ≡ array_vec_len text.old + length words.now) }
 {
-    Text {
-        bytes: [0; ROOM],
-        length: 0,
-    }
+    let _ = text.try_extend_from_slice(words);
 }
 
-// The text, then these bytes.
-pub(crate) fn with_text(t: Text, words: &[u8]) -> Text
-    requires { t.length + length words.now ≤ room }
-    ensures { (text_of result ≡ text_of t ++ words.now) × (result.length ≡ t.length + length words.now) }
-{
-    let from = t.length;
-    let mut bytes = t.bytes;
-    let mut i: usize = 0;
-    while i < words.len() {
-        bytes[from + i] = words[i];
-        i += 1;
-    }
-    let end = from + i;
-    Text { bytes, length: end }
-}
-
-// The text, then a number in decimal.
-fn with_number(t: Text, n: u64) -> Text
-    requires { t.length + number_room ≤ room }
-    ensures { (text_of result ≡ text_of t ++ decimal n) × (result.length ≤ t.length + number_room) }
+// Puts a number in decimal behind the text.
+fn number(text: &mut Text, n: u64)
+    requires { array_vec_len text.old + number_room ≤ room }
+    ensures { (text_of text.new ≡ text_of text.old ++ decimal n) × (array_vec_len text.new ≤ array_vec_len text.old + number_room) }
 {
     let mut digits = [0u8; DIGITS];
     let k = io::decimal(n, &mut digits);
-    with_text(t, &digits[..k])
+    put(text, &digits[..k]);
 }
 
-// The text, then a number and a space.
-pub(crate) fn spaced(t: Text, n: u64) -> Text
-    requires { t.length + word_room ≤ room }
-    ensures { (text_of result ≡ text_of t ++ spaced_word n) × (result.length ≤ t.length + word_room) }
+// Puts a number and a space behind the text.
+pub(crate) fn spaced(text: &mut Text, n: u64)
+    requires { array_vec_len text.old + word_room ≤ room }
+    ensures { (text_of text.new ≡ text_of text.old ++ spaced_word n) × (array_vec_len text.new ≤ array_vec_len text.old + word_room) }
 {
-    let written = with_number(t, n);
-    with_text(written, b" ")
+    number(text, n);
+    put(text, b" ");
 }
 
-// The text, then a number and the end of the line.
-pub(crate) fn ended(t: Text, n: u64) -> Text
-    requires { t.length + word_room ≤ room }
-    ensures { (text_of result ≡ text_of t ++ ended_word n) × (result.length ≤ t.length + word_room) }
+// Puts a number and the end of the line behind the text.
+pub(crate) fn ended(text: &mut Text, n: u64)
+    requires { array_vec_len text.old + word_room ≤ room }
+    ensures { (text_of text.new ≡ text_of text.old ++ ended_word n) × (array_vec_len text.new ≤ array_vec_len text.old + word_room) }
 {
-    let written = with_number(t, n);
-    with_text(written, b"\n")
+    number(text, n);
+    put(text, b"\n");
 }

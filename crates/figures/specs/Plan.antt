@@ -1,9 +1,12 @@
 -- The figures of a plan (document 01, "The chain and the board", "Plan bytes") and module order. Assumes nothing.
-use Rattle.std.specs.Prelude.{ℕ, zero, suc, ◌+◌, ◌-◌, ◌<◌, ◌≡◌, List, [], ◌∷◌, ◌⊎◌, length, get_or}
+use Rattle.std.specs.Prelude.{ℕ, zero, suc, ◌+◌, ◌-◌, ◌<◌, ◌≡◌, List, [], ◌∷◌, ◌⊎◌, length, get_or, Result, Ok, Err}
+use Rattle.records.specs.declared.refusal.Refusal.{Refusal}
+use Rattle.records.specs.Refusals.{number_of, place_of}
 use Rattle.modules.specs.declared.Module.{Module}
 use Rattle.modules.specs.Model.{Chain}
 use Rattle.layout.specs.Layout.{module_at, modules_from}
-use Rattle.figures.specs.declared.Answer.{Answer}
+use Rattle.figures.specs.declared.PlanFigures.{PlanFigures}
+use Rattle.figures.specs.declared.answer.Answer.{Answer}
 use Rattle.figures.specs.declared.Slowest.{Slowest}
 use Rattle.figures.specs.Model.{response_of, cores_of, responses, bottleneck}
 
@@ -21,14 +24,28 @@ slowness_at c w n i =
 -- ---- figures
 
 -- the figures of a plan
-unfoldable pub figures_of : Chain → List Module → Answer
+unfoldable pub figures_of : Chain → List Module → PlanFigures
 figures_of c ms =
     let x = bottleneck c ms in
-    record { number = 0; place = 0; modules = length ms; cores = cores_of ms; slowest = x.number; copies = x.copies; response = x.response }
+    record { modules = length ms; cores = cores_of ms; slowest = x.number; copies = x.copies; response = x.response }
+
+-- ---- answers in numbers
+
+-- a plan's figures, with number and place 0
+abbrev pub filled_in : PlanFigures → Answer
+filled_in f =
+    record { number = 0; place = 0; modules = f.modules; cores = f.cores; slowest = f.slowest; copies = f.copies; response = f.response }
 
 -- a refusal of any service, by its number and place: zero figures
 abbrev pub refusal : ℕ → ℕ → Answer
 refusal number place = record { number = number; place = place; modules = 0; cores = 0; slowest = 0; copies = 0; response = 0 }
+
+-- a service's answer
+abbrev pub answer_of : Result PlanFigures Refusal → Answer
+answer_of (Ok f) = filled_in f
+answer_of (Err e) = refusal (number_of e) (place_of e)
+
+-- ---- a module's response
 
 -- the response of the i-th module, counted from 0; 0 where there is none
 unfoldable pub response_at : Chain → List Module → ℕ → ℕ

@@ -5,16 +5,16 @@
 // and numbers.
 #![tactic(auto)]
 
+mod answer;
 mod plan;
 
-pub use plan::{block_time, cores_used, figures, refuse, response};
+pub use answer::Answer;
+pub use plan::{block_time, cores_used, figures, response};
 
-// The answer of each service: a refusal's number (0: none) and place, or the plan's count of modules, its cores, and of its
-// bottleneck the number of the module, counted from 1, its response and its copies. A refusal has zero figures.
+// What a plan costs: its count of modules, its cores, and of its bottleneck the number of the module, counted from 1, its response and its
+// copies.
 #[derive(Clone, Copy)]
-pub struct Answer {
-    pub number: u32,
-    pub place: u32,
+pub struct PlanFigures {
     pub modules: u32,
     pub cores: u32,
     pub slowest: u32,
@@ -23,7 +23,7 @@ pub struct Answer {
 }
 
 // A module by its number in a plan, counted from 1, with its response and its copies.
-#[derive(Clone, Copy)]
+#[derive(Clone, Copy, Default)]
 pub struct Slowest {
     pub number: u32,
     pub response: u64,

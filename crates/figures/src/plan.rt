@@ -3,23 +3,23 @@ ghost use Rattle.std.specs.Prelude.{◌≡◌, cond, ◌+◌, ◌-◌, ◌≤◌
 ghost use Rattle.modules.specs.Model.{chain_of};
 ghost use Rattle.layout.specs.Layout.{most_modules, module_at, modules_from, modules_of};
 ghost use Rattle.figures.specs.Model.{cores_of, slower_of, bottleneck, block_time};
-ghost use Rattle.figures.specs.Plan.{cores_before, slowness_at, figures_of, refusal, response_at};
+ghost use Rattle.figures.specs.Plan.{cores_before, slowness_at, figures_of, response_at};
 
-use crate::{Answer, Slowest};
+use crate::{PlanFigures, Slowest};
 use layout::{module_at, module_count};
 use modules::{passage, response_of};
 use records::Board;
 
-// The cores of a copy of the module before the i-th, 0 for the first.
+// The cores of a copy of the module before the i-th, 0 for the first: 0 cores are "no neighbour" wherever a response is defined.
 fn cores_before(plan: &[u8], i: u32) -> u8
     requires { i ≤ most_modules }
     ensures { result ≡ cores_before plan.now i }
 {
     if i == 0 {
-        return 0;
+        0
+    } else {
+        module_at(plan, i - 1).cores
     }
-    let m = module_at(plan, i - 1);
-    m.cores
 }
 
 // The cores of a copy of the i-th of count modules, 0 where there is none.
@@ -28,10 +28,10 @@ fn cores_at(plan: &[u8], count: u32, i: u32) -> u8
     ensures { result ≡ cond (ltb i count) (module_at plan.now i).cores 0 }
 {
     if i < count {
-        let m = module_at(plan, i);
-        return m.cores;
+        module_at(plan, i).cores
+    } else {
+        0
     }
-    0
 }
 
 // The i-th of count modules, with its response.
@@ -64,20 +64,14 @@ fn slowest_of(costs: &[u8], board: Board, plan: &[u8], count: u32) -> Slowest
     requires { count ≤ most_modules }
     ensures { result ≡ bottleneck (chain_of costs.now board) (modules_from plan.now 0 count) }
 {
+    // Zeros where there is no module, as the definition `bottleneck` has them and `Answer` shows them to C.
     if count == 0 {
-        return Slowest {
-            number: 0,
-            response: 0,
-            copies: 0,
-        };
+        return Slowest::default();
     }
     let mut x = slowness(costs, board, plan, count, 0);
-    let mut i: u32 = 1;
-    while i < count {
+    for i in 1..count {
         let y = slowness(costs, board, plan, count, i);
-        let z = slower(x, y);
-        x = z;
-        i += 1;
+        x = slower(x, y);
     }
     x
 }
@@ -88,11 +82,9 @@ fn cores_of(plan: &[u8], count: u32) -> u32
     ensures { result ≡ cores_of (modules_from plan.now 0 count) }
 {
     let mut sum: u32 = 0;
-    let mut i: u32 = 0;
-    while i < count {
+    for i in 0..count {
         let m = module_at(plan, i);
         sum += (m.copies as u32) * (m.cores as u32);
-        i += 1;
     }
     sum
 }
@@ -106,14 +98,12 @@ pub fn cores_used(plan: &[u8], k: u8) -> u32
 }
 
 // The figures of plan bytes: document 01's count of modules, cores and bottleneck.
-pub fn figures(costs: &[u8], board: Board, plan: &[u8]) -> Answer
+pub fn figures(costs: &[u8], board: Board, plan: &[u8]) -> PlanFigures
     ensures { result ≡ figures_of (chain_of costs.now board) (modules_of plan.now board.tasks) }
 {
     let count = module_count(plan, board.tasks);
     let x = slowest_of(costs, board, plan, count);
-    Answer {
-        number: 0,
-        place: 0,
+    PlanFigures {
         modules: count,
         cores: cores_of(plan, count),
         slowest: x.number,
@@ -122,16 +112,16 @@ pub fn figures(costs: &[u8], board: Board, plan: &[u8]) -> Answer
     }
 }
 
-// The response of the i-th module, in ticks; 0 where there is none.
+// The response of the i-th module, in ticks; 0 where there is none, as `response_at` has it.
 pub fn response(costs: &[u8], board: Board, plan: &[u8], i: u32) -> u64
     ensures { result ≡ response_at (chain_of costs.now board) (modules_of plan.now board.tasks) i }
 {
     let count = module_count(plan, board.tasks);
     if i < count {
-        let x = slowness(costs, board, plan, count, i);
-        return x.response;
+        slowness(costs, board, plan, count, i).response
+    } else {
+        0
     }
-    0
 }
 
 // The single-block time of plan bytes (document 02, M-104), in ticks.
@@ -140,28 +130,10 @@ pub fn block_time(costs: &[u8], board: Board, plan: &[u8]) -> u64
 {
     let count = module_count(plan, board.tasks);
     let mut sum: u64 = 0;
-    let mut i: u32 = 0;
-    while i < count {
+    for i in 0..count {
         let m = module_at(plan, i);
-        let next = i + 1;
-        let q = cores_at(plan, count, next);
-        sum += passage(costs, board, m, q);
-        i = next;
+        let next = cores_at(plan, count, i + 1);
+        sum += passage(costs, board, m, next);
     }
     sum
-}
-
-// A refusal by its number and place, with zero figures.
-pub fn refuse(number: u32, place: u32) -> Answer
-    ensures { result ≡ refusal number place }
-{
-    Answer {
-        number,
-        place,
-        modules: 0,
-        cores: 0,
-        slowest: 0,
-        copies: 0,
-        response: 0,
-    }
 }

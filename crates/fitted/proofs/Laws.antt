@@ -6,9 +6,12 @@ use mathlib.Core.List.{List}
 use mathlib.Core.Logic.{◌↔◌}
 use Prim.Native.Nat.{ℕ, ◌*◌, ◌≤◌, ◌<◌}
 use lib.ListN.{length, get_or, take, drop}
-use Rattle.records.specs.declared.Reading.{Reading}
-use Rattle.records.specs.declared.Filled.{Filled}
-use Rattle.records.specs.Costs.{key, count_of}
+use Rattle.std.specs.Prelude.{Result}
+use Rattle.records.specs.declared.Board.{Board}
+use Rattle.records.specs.declared.refusal.Refusal.{Refusal}
+use Rattle.records.specs.Costs.{key, count_of, board_in}
+use Rattle.records.specs.Filled.{count_in}
+use Rattle.records.specs.Refusals.{number_in}
 use Rattle.laws.specs.Form.{law_of}
 use Rattle.fitted.specs.Fill.{read_first, law_count, law_keys, law_key, laws_meet, values_meet, fill_answer, fill_bytes}
 use Rattle.fitted.specs.Claims.{IsFirst, FirstFinds, IsLaws, LawSays, InBounds, Fills, Follows, execution_place, internal_place, external_place}
@@ -30,7 +33,7 @@ module _ (k : ℕ) where
 -- ---- what is accepted, each part by itself
 
 -- the first part: refusals 1 to 6 exactly under their conditions, with their places
-pub first_exactly : (s : List ℕ) (r : Reading) → (read_first s ≡ r) ↔ FirstFinds s r
+pub first_exactly : (s : List ℕ) (r : Result Board Refusal) → (read_first s ≡ r) ↔ FirstFinds s r
 first_exactly s r = (λ e. rw e at (begun.finds s), begun.finds_only s r)
 
 module _ (l : List ℕ) (k : ℕ) (some : 1 ≤ k) where
@@ -57,12 +60,12 @@ module _ (l : List ℕ) (k : ℕ) (some : 1 ≤ k) where
 
 module _ (head l out : List ℕ) where
   -- each answer is given exactly under its condition
-  pub fill_exactly : (a : Filled) → (fill_answer head l out ≡ a) ↔ Fills head l out a
+  pub fill_exactly : (a : Result ℕ Refusal) → (fill_answer head l out ≡ a) ↔ Fills head l out a
   fill_exactly a = (λ e. rw e at (deciding.answered head l out), deciding.answered_only head l out a)
 
   -- a refusal fills in nothing and leaves the output as lent
-  module _ (n : (fill_answer head l out).refusal ≡ 0 → ⊥) where
-    pub refused_empty : (fill_answer head l out).count ≡ 0
+  module _ (n : number_in (fill_answer head l out) ≡ 0 → ⊥) where
+    pub refused_empty : count_in (fill_answer head l out) ≡ 0
     refused_empty = deciding.refused_empty head l out n
 
     pub refused_lent : fill_bytes head l out ≡ out
@@ -70,19 +73,19 @@ module _ (head l out : List ℕ) where
 
   -- what is filled in has a first part and a law for each cost of its chain; it is accepted costs of that board, each its law's value;
   -- behind it the output is as lent
-  module _ (z : (fill_answer head l out).refusal ≡ 0) where
-    pub fill_first : IsFirst head (read_first head).board
+  module _ (z : number_in (fill_answer head l out) ≡ 0) where
+    pub fill_first : IsFirst head (board_in (read_first head))
     fill_first = deciding.fill_first head l out z
 
     -- with `execution_law` and the like, then `three_law` and the like of `laws`, a value is spelt out in one record's coefficients
-    pub fill_laws : IsLaws l (read_first head).board.tasks
+    pub fill_laws : IsLaws l (board_in (read_first head)).tasks
     fill_laws = deciding.fill_laws head l out z
 
-    pub fill_follows : Follows (take (fill_answer head l out).count (fill_bytes head l out)) head l (read_first head).board
+    pub fill_follows : Follows (take (count_in (fill_answer head l out)) (fill_bytes head l out)) head l (board_in (read_first head))
     fill_follows = deciding.fill_follows head l out z
 
-    pub fill_beyond : drop (fill_answer head l out).count (fill_bytes head l out) ≡ drop (fill_answer head l out).count out
+    pub fill_beyond : drop (count_in (fill_answer head l out)) (fill_bytes head l out) ≡ drop (count_in (fill_answer head l out)) out
     fill_beyond = deciding.fill_beyond head l out z
 
-    pub fill_count : (fill_answer head l out).count ≡ 8 * count_of (read_first head).board.tasks (read_first head).board.cores
+    pub fill_count : count_in (fill_answer head l out) ≡ 8 * count_of (board_in (read_first head)).tasks (board_in (read_first head)).cores
     fill_count = deciding.fill_count head l out z

@@ -1,5 +1,5 @@
 -- The keys of the task records, behind one that stands for the board's record: as many as stated, each task's its own. Assumes nothing.
-use mathlib.Core.Path.{◌≡◌, sym, ap, ◌∙◌}
+use mathlib.Core.Path.{◌≡◌, ap, ◌∙◌}
 use Prim.Native.Nat.{ℕ, ◌+◌, ◌-◌, ◌≤◌}
 use mathlib.Core.List.{List, ◌∷◌}
 use native.Mathlib.Omega.{arith}
@@ -18,11 +18,10 @@ pub listed_count : (k : ℕ) → length (listed k) ≡ 1 + k
 unfolding task_keys
 listed_count k = omega (arith, length_each 0 k (λ t. key 2 t 0 0))
 
--- the fault by a task's key is the fault by the list's
-pub listed_fault : (s : List ℕ) (k n : ℕ) {f : ℕ} → 1 ≤ n → n ≤ k → f ≡ fault_at s n (key 2 n 0 0) → fault_of s (listed k) n ≡ f
+-- the fault by the list's key is the fault by a task's
+pub listed_fault : (s : List ℕ) (k n : ℕ) → 1 ≤ n → n ≤ k → fault_of s (listed k) n ≡ fault_at s n (key 2 n 0 0)
 unfolding task_keys
-listed_fault s k n l u q =
+listed_fault s k n l u =
     let e : n - 1 + 1 ≡ n = omega arith in
     ap (fault_at s n)
     (get_or_behind no_key (each k (λ t. key 2 t 0 0)) no_key n l ∙ each_at k (λ t. key 2 t 0 0) no_key (n - 1) (omega arith) ∙ ap (λ (t : ℕ). key 2 t 0 0) e)
-    ∙ sym q

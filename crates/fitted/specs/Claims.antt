@@ -1,12 +1,12 @@
 -- Document 02's M-101 as a direct statement, beside the definitions of `Fill` that run: which first parts and laws are accepted, when
 -- each refusal is due, and what the costs filled in say. Assumes nothing.
-use Rattle.std.specs.Prelude.{◌≡◌, List, ℕ, ◌+◌, ◌-◌, ◌*◌, ◌≤◌, ◌<◌, length, take}
+use Rattle.std.specs.Prelude.{◌≡◌, List, ℕ, ◌+◌, ◌-◌, ◌*◌, ◌≤◌, ◌<◌, length, take, Result, Ok, Err}
 use Rattle.records.specs.declared.Board.{Board}
-use Rattle.records.specs.declared.Reading.{Reading}
-use Rattle.records.specs.declared.Filled.{Filled}
-use Rattle.records.specs.Costs.{most_value, key, count_of, board_of, accepted, refused, read_costs}
+use Rattle.records.specs.declared.refusal.Fault.TheVariants.{WrongKey, WrongValue}
+use Rattle.records.specs.declared.refusal.Refusal.{Refusal}
+use Rattle.records.specs.declared.refusal.Refusal.TheVariants.{WrongLength, Faulty, WrongLaws, LawRange, ShortOutput}
+use Rattle.records.specs.Costs.{most_value, key, count_of, board_of, read_costs}
 use Rattle.records.specs.Format.{Bears, InRange, Whole, Headed, Ranged, Opens}
-use Rattle.records.specs.Filled.{filled_in, unfilled}
 use Rattle.lookups.specs.Lookups.{execution_of, internal_of, pair_of, external_of}
 use Rattle.laws.specs.declared.Law.{Law}
 use Rattle.laws.specs.Laws.{law_at}
@@ -35,13 +35,14 @@ pub record Begun (s : List ℕ) : Type 0 where
   pub long : length s ≡ 8 * (1 + (board_of s).tasks)
 
 -- what reading a first part is to find: 1 to 3 as for a whole file, 4 unless there are 1 + k records, then the first fault
-pub data FirstFinds (s : List ℕ) : Reading → Type 0 where
-  first : (b : Board) → IsFirst s b → FirstFinds s (accepted b)
-  opening_wrong : (r : Reading) → Opens s r → (r.number ≡ 0 → ⊥) → FirstFinds s r
-  count_wrong : Whole s → Headed s → Ranged (board_of s) → (length s ≡ 8 * (1 + (board_of s).tasks) → ⊥) → FirstFinds s (refused 4 0)
-  key_wrong : (n : ℕ) → Begun s → 1 ≤ n → n ≤ (board_of s).tasks → TasksBelow s n → (Bears s n (key 2 n 0 0) → ⊥) → FirstFinds s (refused 5 (n + 1))
+pub data FirstFinds (s : List ℕ) : Result Board Refusal → Type 0 where
+  first : (b : Board) → IsFirst s b → FirstFinds s (Ok b)
+  opening_wrong : (e : Refusal) → Opens s (Err e) → FirstFinds s (Err e)
+  count_wrong : Whole s → Headed s → Ranged (board_of s) → (length s ≡ 8 * (1 + (board_of s).tasks) → ⊥) → FirstFinds s (Err WrongLength)
+  key_wrong : (n : ℕ) → Begun s → 1 ≤ n → n ≤ (board_of s).tasks → TasksBelow s n → (Bears s n (key 2 n 0 0) → ⊥)
+      → FirstFinds s (Err (Faulty WrongKey (n + 1)))
   value_wrong : (n : ℕ) → Begun s → 1 ≤ n → n ≤ (board_of s).tasks → TasksBelow s n → Bears s n (key 2 n 0 0)
-      → (InRange s n (key 2 n 0 0) → ⊥) → FirstFinds s (refused 6 (n + 1))
+      → (InRange s n (key 2 n 0 0) → ⊥) → FirstFinds s (Err (Faulty WrongValue (n + 1)))
 
 -- ---- the laws
 
@@ -80,19 +81,19 @@ pub record InBounds (l : List ℕ) (k p : ℕ) : Type 0 where
 -- ---- the service
 
 -- what filling in is to answer: each refusal under its condition, in this order
-pub data Fills (head l out : List ℕ) : Filled → Type 0 where
+pub data Fills (head l out : List ℕ) : Result ℕ Refusal → Type 0 where
   enough : (b : Board) → IsFirst head b → IsLaws l b.tasks → InBounds l b.tasks b.cores → 8 * count_of b.tasks b.cores ≤ length out
-      → Fills head l out (filled_in (8 * count_of b.tasks b.cores))
-  first_wrong : (r : Reading) → FirstFinds head r → (r.number ≡ 0 → ⊥) → Fills head l out (unfilled r.number r.place)
-  laws_wrong : (b : Board) → IsFirst head b → (IsLaws l b.tasks → ⊥) → Fills head l out (unfilled 17 0)
-  value_wrong : (b : Board) → IsFirst head b → IsLaws l b.tasks → (InBounds l b.tasks b.cores → ⊥) → Fills head l out (unfilled 18 0)
+      → Fills head l out (Ok (8 * count_of b.tasks b.cores))
+  first_wrong : (e : Refusal) → FirstFinds head (Err e) → Fills head l out (Err e)
+  laws_wrong : (b : Board) → IsFirst head b → (IsLaws l b.tasks → ⊥) → Fills head l out (Err WrongLaws)
+  value_wrong : (b : Board) → IsFirst head b → IsLaws l b.tasks → (InBounds l b.tasks b.cores → ⊥) → Fills head l out (Err LawRange)
   output_short : (b : Board) → IsFirst head b → IsLaws l b.tasks → InBounds l b.tasks b.cores
-      → length out < 8 * count_of b.tasks b.cores → Fills head l out (unfilled 19 0)
+      → length out < 8 * count_of b.tasks b.cores → Fills head l out (Err ShortOutput)
 
 -- s is accepted costs of the first part's board: its records of kinds 1 and 2 are the first part, and each cost that is looked up
 -- in it is its law's value
 pub record Follows (s head l : List ℕ) (b : Board) : Type 0 where
-  pub reads : read_costs s ≡ accepted b
+  pub reads : read_costs s ≡ Ok b
   pub first_part : take (8 * (1 + b.tasks)) s ≡ head
   pub executions : (t p : ℕ) → 1 ≤ t → t ≤ b.tasks → 1 ≤ p → p ≤ b.cores → execution_of s b t p ≡ law_at (law_of l (execution_place t)) p 0
   pub internals : (t p : ℕ) → 1 ≤ t → t < b.tasks → 1 ≤ p → p ≤ b.cores → internal_of s b t p ≡ law_at (law_of l (internal_place b.tasks t)) p 0

@@ -1,13 +1,13 @@
 -- Costs from a few measurements (document 02, M-101): the first part, the laws of a chain, and what filling in answers and writes.
 -- Records are counted from 0 here and a refusal's place from 1. Assumes nothing.
-use Rattle.std.specs.Prelude.{ℕ, zero, suc, ◌+◌, ◌-◌, ◌*◌, ◌/◌, ◌%◌, List, [], ◌∷◌, ◌++◌, Bool, true, cond, ◌&&◌, length, drop, ltb, leb, eqb}
+use Rattle.std.specs.Prelude.{ℕ, zero, suc, ◌+◌, ◌-◌, ◌*◌, ◌/◌, ◌%◌, List, [], ◌∷◌, ◌++◌, Bool, true, cond, ◌&&◌, length, drop, ltb, leb, eqb, Result, Ok, Err}
 use Rattle.records.specs.declared.Board.{Board}
-use Rattle.records.specs.declared.Reading.{Reading}
-use Rattle.records.specs.declared.Refusal.{Refusal}
 use Rattle.records.specs.declared.Key.{Key}
-use Rattle.records.specs.declared.Filled.{Filled}
-use Rattle.records.specs.Costs.{most_value, key, each, join, count_of, first_fault, refused, read_board}
-use Rattle.records.specs.Filled.{filled_in, unfilled}
+use Rattle.records.specs.declared.refusal.Refusal.{Refusal}
+use Rattle.records.specs.declared.refusal.Refusal.TheVariants.{WrongLength, WrongLaws, LawRange, ShortOutput}
+use Rattle.records.specs.Costs.{most_value, key, each, join, count_of, first_fault, board_in, read_board}
+use Rattle.records.specs.Filled.{count_in}
+use Rattle.records.specs.Refusals.{number_in, and_then}
 use Rattle.laws.specs.declared.Law.{Law}
 use Rattle.laws.specs.declared.Cost.{Cost}
 use Rattle.laws.specs.Laws.{law_at}
@@ -19,18 +19,13 @@ use Rattle.laws.specs.Form.{law_bytes, cost_at, law_meets}
 unfoldable pub task_keys : ℕ → List Key
 task_keys k = each k (λ t. key 2 t 0 0)
 
--- the refusal that its tasks' records deserve: 4 unless there are 1 + k records, then the first fault, 5 or 6; 0 for none
-unfoldable pub tasks_fault : List ℕ → Board → Refusal
-tasks_fault s b =
-    let f = first_fault s 1 (task_keys b.tasks) in
-    cond (eqb (length s) (8 * (1 + b.tasks))) f (record { number = 4; place = 0 })
+-- the refusal that its tasks' records deserve: 4 unless there are 1 + k records, then the first fault, 5 or 6
+unfoldable pub tasks_fault : List ℕ → Board → Result Unit Refusal
+tasks_fault s b = cond (eqb (length s) (8 * (1 + b.tasks))) (first_fault s 1 (task_keys b.tasks)) (Err WrongLength)
 
 -- what reading the first part s finds: refusals 1 to 6, or the board
-unfoldable pub read_first : List ℕ → Reading
-read_first s =
-    let r = read_board s in
-    let f = tasks_fault s r.board in
-    cond (eqb r.number 0) (cond (eqb f.number 0) r (refused f.number f.place)) r
+unfoldable pub read_first : List ℕ → Result Board Refusal
+read_first s = and_then (λ b. and_then (λ u. Ok b) (tasks_fault s b)) (read_board s)
 
 -- ---- the laws of a chain: a record for each cost
 
@@ -112,30 +107,28 @@ records_from l p i (suc n) = cost_records (cost_at l i) p ++ records_from l p (i
 unfoldable pub all_records : List ℕ → List ℕ → ℕ → ℕ → List ℕ
 all_records head l k p = head ++ records_from l p 0 (law_count k)
 
--- the refusal that the laws deserve on a board of k tasks and p cores, 0 for none: all of 17 goes before any 18
-unfoldable pub laws_fault : List ℕ → ℕ → ℕ → ℕ
-laws_fault l k p = cond (laws_meet l k) (cond (values_meet l p 0 (law_count k)) 0 18) 17
+-- the refusal that the laws deserve on a board of k tasks and p cores: all of 17 goes before any 18
+unfoldable pub laws_fault : List ℕ → ℕ → ℕ → Result Unit Refusal
+laws_fault l k p = cond (laws_meet l k) (cond (values_meet l p 0 (law_count k)) (Ok tt) (Err LawRange)) (Err WrongLaws)
 
 -- what it answers then: that refusal, or 19, or the bytes filled in; of the output only its length counts
-unfoldable pub answer_on : List ℕ → ℕ → ℕ → List ℕ → Filled
+unfoldable pub answer_on : List ℕ → ℕ → ℕ → List ℕ → Result ℕ Refusal
 answer_on l k p out =
-    let f = laws_fault l k p in
-    cond (eqb f 0) (cond (leb (8 * count_of k p) (length out)) (filled_in (8 * count_of k p)) (unfilled 19 0)) (unfilled f 0)
+    and_then (λ u. cond (leb (8 * count_of k p) (length out)) (Ok (8 * count_of k p)) (Err ShortOutput)) (laws_fault l k p)
 
 -- what the output is then
 unfoldable pub bytes_on : List ℕ → List ℕ → ℕ → ℕ → List ℕ → List ℕ
 bytes_on head l k p out =
     let a = answer_on l k p out in
-    cond (eqb a.refusal 0) (all_records head l k p ++ drop a.count out) out
+    cond (eqb (number_in a) 0) (all_records head l k p ++ drop (count_in a) out) out
 
 -- what it answers to a first part, laws and an output
-unfoldable pub fill_answer : List ℕ → List ℕ → List ℕ → Filled
-fill_answer head l out =
-    let r = read_first head in
-    cond (eqb r.number 0) (answer_on l r.board.tasks r.board.cores out) (unfilled r.number r.place)
+unfoldable pub fill_answer : List ℕ → List ℕ → List ℕ → Result ℕ Refusal
+fill_answer head l out = and_then (λ b. answer_on l b.tasks b.cores out) (read_first head)
 
 -- what the output is afterwards: as lent where it refuses, and behind what is filled in
 unfoldable pub fill_bytes : List ℕ → List ℕ → List ℕ → List ℕ
 fill_bytes head l out =
     let r = read_first head in
-    cond (eqb r.number 0) (bytes_on head l r.board.tasks r.board.cores out) out
+    let b = board_in r in
+    cond (eqb (number_in r) 0) (bytes_on head l b.tasks b.cores out) out

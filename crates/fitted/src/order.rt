@@ -14,14 +14,14 @@ fn law_key(k: u8, n: u8) -> Key
 {
     let tasks = wide(k);
     let i = wide(n);
-    if i < tasks {
-        return law_due(3, i + 1);
-    }
     let pairs = 2 * tasks - 1;
-    if i < pairs {
-        return law_due(4, i - tasks + 1);
+    if i < tasks {
+        law_due(3, i + 1)
+    } else if i < pairs {
+        law_due(4, i - tasks + 1)
+    } else {
+        law_due(EXTERNAL, i - pairs + 1)
     }
-    law_due(EXTERNAL, i - pairs + 1)
 }
 
 // The key of a law's record: no a and no b.
@@ -53,13 +53,11 @@ pub(crate) fn laws_meet(laws: &[u8], k: u8) -> bool
     if laws.len() != ((LAW_BYTES * wide(total)) as usize) {
         return false;
     }
-    let mut n: u8 = 0;
-    while n < total {
+    for n in 0..total {
         let key = law_key(k, n);
         if !law_meets(laws, n, key) {
             return false;
         }
-        n += 1;
     }
     true
 }

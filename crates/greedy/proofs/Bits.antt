@@ -11,7 +11,7 @@ use borrow.Author.Tests.{eqb-true}
 use Rattle.records.proofs.Cases.{lt_or_le}
 use Rattle.greedy.specs.Greedy.{bit, SomeBit}
 
-bit_shifted : (g j i : ℕ) → bit (g / 2 ^ j) i ≡ bit g (j + i)
+pub bit_shifted : (g j i : ℕ) → bit (g / 2 ^ j) i ≡ bit g (j + i)
 unfolding bit
 bit_shifted g j i = rw shr-shr
 

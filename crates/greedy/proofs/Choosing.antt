@@ -4,13 +4,14 @@ use mathlib.Core.Bool.{Bool, true, false, ◌&&◌, and-false}
 use mathlib.Core.List.Memᴰ
 use mathlib.Core.List.{List, [], ◌∷◌, Memᴰ}
 use mathlib.Core.Logic.{◌↔◌, ⊎_elim}
+use Rattle.std.specs.Prelude.{Option as Maybe, Some, None, IfSome}
 use mathlib.Core.Option.{Option, none, some}
 use Prim.Native.Nat.{ℕ, zero, suc, ◌+◌, ◌-◌, ◌*◌, ◌≤◌, ◌<◌}
 use native.Mathlib.Omega.{arith}
 use lib.ListN.{length, get_or, set}
 use lib.Dec.{ltb}
 use borrow.Author.Tests.{lt-ltb, le-ltb, ltb-true}
-use Rattle.records.proofs.Cases.{true_not_false, true_or_false, false_unless, and-true, lt_or_le}
+use Rattle.records.proofs.Cases.{true_or_false, false_unless, and-true, lt_or_le}
 use Rattle.modules.specs.declared.Module.{Module}
 use Rattle.modules.specs.Model.{Chain}
 use Rattle.modules.specs.Rules.{within_limit}
@@ -123,28 +124,13 @@ module _ (c : Chain) (ms : List Module) (P : List Module → Type 0) (given : (i
 
 -- ---- the same on choices
 
-pub choice_some : (k : ℕ) (r : Choice) → r.found ≡ true → choice_of k r ≡ some (modules_of r.plan k)
-unfolding choice_of
-choice_some k r e = simp e
-
-pub choice_none : (k : ℕ) (r : Choice) → r.found ≡ false → choice_of k r ≡ none
-unfolding choice_of
-choice_none k r e = simp e
-
-pub chosen_nothing : (c : Chain) (ms : List Module) (r : Choice) → r.found ≡ false → Chosen c ms r
-chosen_nothing c ms r e = record {
-  held = λ y. true_not_false r.found y e;
-  timed = λ y. true_not_false r.found y e;
-  dearer = λ y. true_not_false r.found y e;
-}
-
 abbrev taken : ℕ → List ℕ → Choice
-taken t v = record { found = true; time = t; plan = v }
+taken t v = record { time = t; plan = v }
 
--- the best so far is the choice `best`, and the i-th of the modules that w says is considered
-module _ (c : Chain) (w : List ℕ) (i : ℕ) (best : Choice) (b : Chosen c (modules_of w c.tasks) best) where
-  abbrev Considered : Choice → Type 0
-  Considered r = Chosen c (modules_of w c.tasks) r × (choice_of c.tasks r ≡ consider c (modules_of w c.tasks) (choice_of c.tasks best) i)
+-- the best so far is `best`, and the i-th of the modules that w says is considered
+module _ (c : Chain) (w : List ℕ) (i : ℕ) (best : Maybe Choice) (b : IfSome best (Chosen c (modules_of w c.tasks))) where
+  abbrev Considered : Maybe Choice → Type 0
+  Considered o = IfSome o (Chosen c (modules_of w c.tasks)) × (choice_of c.tasks o ≡ consider c (modules_of w c.tasks) (choice_of c.tasks best) i)
 
   pub considered_none : may_take c (modules_of w c.tasks) i ≡ false → Considered best
   considered_none h = (b, sym (consider_none c (modules_of w c.tasks) i (choice_of c.tasks best) h))
@@ -161,25 +147,26 @@ module _ (c : Chain) (w : List ℕ) (i : ℕ) (best : Choice) (b : Chosen c (mod
     given_time : t ≡ time c (give (modules_of w c.tasks) i)
     given_time = d ∙ ap (time c) given.1
 
-    considered_taken : consider c (modules_of w c.tasks) (choice_of c.tasks best) i ≡ some (give (modules_of w c.tasks) i) → Considered (taken t v)
-    unfolding choice_of
+    considered_taken : consider c (modules_of w c.tasks) (choice_of c.tasks best) i ≡ some (give (modules_of w c.tasks) i) → Considered (Some (taken t v))
     considered_taken q = (
-      record { held = λ _. given.0; timed = λ _. d; dearer = λ _. ap cores_of given.1 ∙ give_cores (modules_of w c.tasks) i a.single there },
+      record { held = given.0; timed = d; dearer = ap cores_of given.1 ∙ give_cores (modules_of w c.tasks) i a.single there },
       ap some given.1 ∙ sym q,
     )
 
-    pub considered_first : best.found ≡ false → Considered (taken t v)
-    considered_first f = considered_taken (rw (choice_none c.tasks best f) (consider_first c (modules_of w c.tasks) i takes))
+    pub considered_first : best ≡ None → Considered (Some (taken t v))
+    considered_first f = considered_taken (rw f (consider_first c (modules_of w c.tasks) i takes))
 
-    pub considered_less : best.found ≡ true → t < best.time → Considered (taken t v)
-    considered_less f l =
-        let x = modules_of best.plan c.tasks in
-        considered_taken (rw (choice_some c.tasks best f) (consider_less c (modules_of w c.tasks) i x takes (omega (arith, b.timed f, given_time))))
+    pub considered_less : (r : Choice) → best ≡ Some r → t < r.time → Considered (Some (taken t v))
+    considered_less r f l =
+        let x = modules_of r.plan c.tasks in
+        let h = rw f at b in
+        considered_taken (rw f (consider_less c (modules_of w c.tasks) i x takes (omega (arith, h.timed, given_time))))
 
-    pub considered_more : best.found ≡ true → best.time ≤ t → Considered best
-    considered_more f l =
-        let x = modules_of best.plan c.tasks in
-        (b, rw (choice_some c.tasks best f) (sym (consider_more c (modules_of w c.tasks) i x (omega (arith, b.timed f, given_time)))))
+    pub considered_more : (r : Choice) → best ≡ Some r → r.time ≤ t → Considered (Some r)
+    considered_more r f l =
+        let x = modules_of r.plan c.tasks in
+        let h = rw f at b in
+        (h, rw f (sym (consider_more c (modules_of w c.tasks) i x (omega (arith, h.timed, given_time)))))
 
 -- ---- the slowest module and its neighbours
 

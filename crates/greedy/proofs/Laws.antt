@@ -7,13 +7,15 @@ use mathlib.Core.Option.{none}
 use mathlib.Core.Logic.Iff
 use mathlib.Core.Logic.{◌↔◌, ◌⊎◌}
 use Prim.Native.Nat.{ℕ, ◌+◌, ◌-◌, ◌^◌, ◌≤◌, ◌<◌}
+use Rattle.std.specs.Prelude.{Err}
 use Rattle.records.specs.declared.Board.{Board}
+use Rattle.records.specs.declared.refusal.Refusal.TheVariants.{NoGrouping, NoStart}
+use Rattle.records.specs.Refusals.{number_in}
 use Rattle.records.specs.Format.{IsCosts}
 use Rattle.modules.specs.declared.Module.{Module}
 use Rattle.modules.specs.Model.{Chain, chain_of}
 use Rattle.figures.specs.Model.{cores_of, bottleneck}
 use Rattle.figures.specs.Rules.{keeps_rules}
-use Rattle.figures.specs.Plan.{refusal}
 use Rattle.judge.specs.Judge.{judged}
 use Rattle.judge.specs.Claims.{Readable, chain}
 use Rattle.greedy.specs.Greedy.{SomeBit, start, time, may_take, AtLimit, predecessor, next, visited, IsEarliest, greedy_plan, OverLimit, greedy_answer, greedy_bytes}
@@ -30,7 +32,7 @@ pub greedy_keeps : (s : List ℕ) (b : Board) → IsCosts s b → (g : ℕ) → 
     → keeps_rules (chain_of s b) (greedy_plan (chain_of s b) g) ≡ true
 greedy_keeps s b c g l n = keeping.plan_keeps (chain_of s b) g c.ranged.some_tasks (answering.fits_unless (chain_of s b) g l n)
 
-pub greedy_judged : (s w : List ℕ) (g : ℕ) → (greedy_answer s g w).number ≡ 0 → judged s (greedy_bytes s g w) ≡ greedy_answer s g w
+pub greedy_judged : (s w : List ℕ) (g : ℕ) → number_in (greedy_answer s g w) ≡ 0 → judged s (greedy_bytes s g w) ≡ greedy_answer s g w
 greedy_judged = answering.plan_judged
 
 -- ---- the plan is the earliest of least bottleneck among the assignments of the walk
@@ -81,14 +83,14 @@ walk_ends c a e n = visiting.visited_ends c n a e
 -- ---- accepted costs and 48 plan bytes: refusals 10 and 11 exactly under their conditions
 
 module _ (s w : List ℕ) (g : ℕ) (r : Readable s w) where
-  pub refusal_10 : (greedy_answer s g w ≡ refusal 10 0) ↔ (2 ^ ((chain s w).tasks - 1) ≤ g)
+  pub refusal_10 : (greedy_answer s g w ≡ Err NoGrouping) ↔ (2 ^ ((chain s w).tasks - 1) ≤ g)
   refusal_10 = answering.refused_grouping s w g r
 
   -- document 01's words: "a grouping bit at k − 1 or above"
-  pub refusal_10_bits : (greedy_answer s g w ≡ refusal 10 0) ↔ SomeBit g ((chain s w).tasks - 1)
+  pub refusal_10_bits : (greedy_answer s g w ≡ Err NoGrouping) ↔ SomeBit g ((chain s w).tasks - 1)
   refusal_10_bits = Iff.trans refusal_10 (bits.some_bit g ((chain s w).tasks - 1))
 
   -- the fewest cores add up to more than P, or some module's exceed its limit
   pub refusal_11 : g < 2 ^ ((chain s w).tasks - 1)
-      → (greedy_answer s g w ≡ refusal 11 0) ↔ (((chain s w).board < cores_of (start (chain s w) g)) ⊎ OverLimit (chain s w) (start (chain s w) g))
+      → (greedy_answer s g w ≡ Err NoStart) ↔ (((chain s w).board < cores_of (start (chain s w) g)) ⊎ OverLimit (chain s w) (start (chain s w) g))
   refusal_11 = answering.refused_start s w g r

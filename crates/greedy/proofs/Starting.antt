@@ -1,18 +1,23 @@
 -- Step 1: the start is one module after another, each up to its last task; it covers the chain in single copies, each of 1 to
 -- P + 1 cores. By induction along the tasks. Assumes nothing.
 use mathlib.Core.Path.{◌≡◌, refl, sym, ◌∙◌}
-use mathlib.Core.Bool.{Bool, true, false, cond}
+use mathlib.Core.Bool.{true, false, cond}
 use mathlib.Core.List.{List, [], ◌∷◌}
 use mathlib.Core.Logic.{⊎_elim}
-use Prim.Native.Nat.{ℕ, zero, suc, ◌+◌, ◌-◌, ◌≤◌, ◌<◌}
+use Prim.Native.Nat.{ℕ, zero, suc, ◌+◌, ◌-◌, ◌/◌, ◌^◌, min, ◌≤◌, ◌<◌}
 use native.Mathlib.Omega.{arith}
+use lib.Count.{trailing_of_zero}
 use lib.Dec.{leb}
+use mir.Syntax.{w16}
+use Rattle.std.specs.Int.{bit_at, trailing_zeros}
+use Rattle.std.proofs.lemmas.Nat.{shr_le}
+use Rattle.std.proofs.lemmas.Nat.Bits.{bit_at-trailing_zeros, bit_at-zero}
+use Rattle.greedy.proofs.Bits.{bit_shifted}
 use borrow.Author.Tests.{le-leb, lt-leb}
-use Rattle.records.proofs.Cases.{true_or_false}
+use Rattle.records.proofs.Cases.{lt_or_le, true_or_false}
 use Rattle.modules.specs.declared.Module.{Module}
 use Rattle.modules.specs.Model.{Chain}
 use Rattle.modules.specs.Rules.{memory_fits, fewest_from, fewest_cores}
-use Rattle.modules.proofs.Left.{left_some, left_none}
 use Rattle.figures.specs.Rules.{covers}
 use Rattle.figures.proofs.Covering.{covers_cons, covers_nil}
 use Rattle.greedy.specs.Greedy.{bit, least, start_from, start}
@@ -20,18 +25,48 @@ use Rattle.greedy.specs.Assignment.{last_of, Single}
 
 -- ---- the last task of a module
 
-module _ (g t k : ℕ) where
-  pub last_here : {e : Bool} → t < k → e ≡ bit g (t - 1) → e ≡ true → last_of g t (k - t) ≡ t
-  unfolding last_of
-  last_here h e y = rw (left_some h, ← e, y)
+bit_clear : (x i : ℕ) → bit_at x i ≡ 0 → bit x i ≡ false
+unfolding bit
+bit_clear x i e = rw e
 
-  pub last_next : {e : Bool} → t < k → e ≡ bit g (t - 1) → e ≡ false → last_of g t (k - t) ≡ last_of g (t + 1) (k - (t + 1))
-  unfolding last_of
-  last_next h e n = rw (left_some h, ← e, n)
+bit_there : (x i : ℕ) → bit_at x i ≡ 1 → bit x i ≡ true
+unfolding bit
+bit_there x i e = rw e
 
-  pub last_end : k ≤ t → last_of g t (k - t) ≡ t
-  unfolding last_of
-  last_end h = rw (left_none h)
+-- by the first bit that ends one
+last_first : (g n t m : ℕ) → 1 ≤ t → ((i : ℕ) → i < m → bit g (t - 1 + i) ≡ false) → (m < n → bit g (t - 1 + m) ≡ true) → last_of g t n ≡ t + min m n
+unfolding last_of
+last_first g zero t m h none there = omega arith
+last_first g (suc n) t zero h none there =
+    let e : t - 1 + 0 ≡ t - 1 = omega arith in
+    let b = rw e at (there (omega arith)) in
+    rw b (omega arith)
+last_first g (suc n) t (suc m) h none there =
+    let e : t - 1 + 0 ≡ t - 1 = omega arith in
+    let b = rw e at (none 0 (omega arith)) in
+    let next : (i : ℕ) → t + 1 - 1 + i ≡ t - 1 + suc i = λ i. omega arith in
+    rw b (omega (arith, last_first g n (t + 1) m (omega arith) (λ i l. rw (next i) (none (suc i) (omega arith))) (λ l. rw (next m) (there (omega arith)))))
+
+-- which is the lowest of the bits that are left
+pub last_trailing : (g t k : ℕ) → 1 ≤ t → t ≤ k → k ≤ 16 → g < 65536 → last_of g t (k - t) ≡ t + min (trailing_zeros w16 (g / 2 ^ (t - 1))) (k - t)
+last_trailing g t k h l few small = ⊎_elim some none (lt_or_le 0 (g / 2 ^ (t - 1)))
+  where
+    some : 0 < g / 2 ^ (t - 1) → last_of g t (k - t) ≡ t + min (trailing_zeros w16 (g / 2 ^ (t - 1))) (k - t)
+    some p =
+        let x = g / 2 ^ (t - 1) in
+        let lowest = bit_at-trailing_zeros w16 x p (omega (arith, shr_le g (t - 1))) in
+        last_first g (k - t) t (trailing_zeros w16 x) h
+        (λ i m. sym (bit_shifted g (t - 1) i) ∙ bit_clear x i (lowest.2 i m))
+        (λ m. sym (bit_shifted g (t - 1) (trailing_zeros w16 x)) ∙ bit_there x (trailing_zeros w16 x) lowest.1)
+
+    none : g / 2 ^ (t - 1) ≤ 0 → last_of g t (k - t) ≡ t + min (trailing_zeros w16 (g / 2 ^ (t - 1))) (k - t)
+    none p =
+        let x = g / 2 ^ (t - 1) in
+        let e : x ≡ 0 = omega arith in
+        let all : trailing_zeros w16 x ≡ 16 = rw e (trailing_of_zero 16) in
+        last_first g (k - t) t (trailing_zeros w16 x) h
+        (λ i m. sym (bit_shifted g (t - 1) i) ∙ bit_clear x i (rw e (bit_at-zero i)))
+        (λ m. absurd (omega arith))
 
 -- ---- the modules from task `first` on, of k tasks; none where `first` is past the last task
 

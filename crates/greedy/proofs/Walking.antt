@@ -1,12 +1,12 @@
 -- Steps 2 to 4, one core after another: what is left of the walk, from the latest assignment and the best so far, ends as the
 -- whole does. Assumes nothing.
 use mathlib.Core.Path.{◌≡◌, refl, sym, ap, ◌∙◌}
-use mathlib.Core.Bool.{true, false, not}
 use mathlib.Core.List.{List}
+use Rattle.std.specs.Prelude.{Option as Maybe, Some, None, IfSome}
 use mathlib.Core.Option.{none, some}
-use Prim.Native.Nat.{ℕ, zero, suc, ◌+◌, ◌-◌, ◌≤◌, ◌<◌}
+use Prim.Native.Nat.{ℕ, zero, suc, ◌+◌, ◌≤◌, ◌<◌}
 use native.Mathlib.Omega.{arith}
-use borrow.Author.Tests.{lt-ltb, le-ltb, not-true, not-false}
+use borrow.Author.Tests.{lt-ltb, le-ltb}
 use Rattle.records.specs.Costs.{most_cores}
 use Rattle.modules.specs.declared.Module.{Module}
 use Rattle.modules.specs.Model.{Chain}
@@ -15,7 +15,6 @@ use Rattle.figures.specs.Model.{cores_of}
 use Rattle.greedy.specs.declared.greedy.Choice.{Choice}
 use Rattle.greedy.specs.Greedy.{time, next, better, greedy_from}
 use Rattle.greedy.specs.Assignment.{Assigned, choice_of, Chosen}
-use Rattle.greedy.proofs.Choosing.{choice_some, choice_none}
 
 module _ (c : Chain) (ms best : List Module) where
   walk_stops : (n : ℕ) → next c ms ≡ none → greedy_from c n ms best ≡ best
@@ -23,10 +22,9 @@ module _ (c : Chain) (ms best : List Module) where
   walk_stops zero e = refl
   walk_stops (suc n) e = rw (e, greedy_from)
 
-  walk_goes : (n : ℕ) (x : List Module) → next c ms ≡ some x → 0 < n → greedy_from c n ms best ≡ greedy_from c (n - 1) x (better c x best)
+  walk_goes : (n : ℕ) (x : List Module) → next c ms ≡ some x → greedy_from c (suc n) ms best ≡ greedy_from c n x (better c x best)
   unfolding greedy_from
-  walk_goes zero x e h = absurd (omega arith)
-  walk_goes (suc n) x e h = let d : suc n - 1 ≡ n = omega arith in rw (d, e, greedy_from)
+  walk_goes n x e = rw (e, greedy_from)
 
 -- n cores are left, t is the bottleneck of `best`, and the walk ends with `whole`
 pub record Underway (c : Chain) (whole : List Module) (latest best : List ℕ) (t n : ℕ) : Type 0 where
@@ -48,29 +46,27 @@ module _ (c : Chain) where
         let none : n ≡ 0 = omega arith in
         u.best_held.bytes ∙ ap encode_plan (sym (rw none at u.ends))
 
-    -- r is the next choice
-    module _ (r : Choice) (chosen : Chosen c (modules_of latest c.tasks) r × (choice_of c.tasks r ≡ next c (modules_of latest c.tasks))) where
-      pub walk_stopped : not r.found ≡ true → best ≡ encode_plan whole
+    -- o is the next choice, if there is one
+    module _ (o : Maybe Choice) (chosen : IfSome o (Chosen c (modules_of latest c.tasks)) × (choice_of c.tasks o ≡ next c (modules_of latest c.tasks))) where
+      pub walk_stopped : o ≡ None → best ≡ encode_plan whole
       walk_stopped f =
-          let e = sym chosen.1 ∙ choice_none c.tasks r (not-true r.found f) in
-          u.best_held.bytes ∙ ap encode_plan (sym (u.ends ∙ walk_stops c (modules_of latest c.tasks) (modules_of best c.tasks) n e))
+          let e = rw f at chosen.1 in
+          u.best_held.bytes ∙ ap encode_plan (sym (u.ends ∙ walk_stops c (modules_of latest c.tasks) (modules_of best c.tasks) n (sym e)))
 
-      module _ (f : not r.found ≡ false) (h : 0 < n) where
-        found : r.found ≡ true
-        found = not-false r.found f
+    -- r is the next choice, after which m cores are left
+    module _ (r : Choice) (chosen : Chosen c (modules_of latest c.tasks) r × (choice_of c.tasks (Some r) ≡ next c (modules_of latest c.tasks))) (m : ℕ) (h : n ≡ suc m) where
+      goes : whole ≡ greedy_from c m (modules_of r.plan c.tasks) (better c (modules_of r.plan c.tasks) (modules_of best c.tasks))
+      goes = rw h at u.ends ∙ walk_goes c (modules_of latest c.tasks) (modules_of best c.tasks) m (modules_of r.plan c.tasks) (sym chosen.1)
 
-        goes : whole ≡ greedy_from c (n - 1) (modules_of r.plan c.tasks) (better c (modules_of r.plan c.tasks) (modules_of best c.tasks))
-        goes = u.ends ∙ walk_goes c (modules_of latest c.tasks) (modules_of best c.tasks) n (modules_of r.plan c.tasks) (sym chosen.1 ∙ choice_some c.tasks r found) h
+      dearer : cores_of (modules_of r.plan c.tasks) + m ≤ most_cores
+      dearer = omega (arith, u.room, chosen.0.dearer)
 
-        dearer : cores_of (modules_of r.plan c.tasks) + (n - 1) ≤ most_cores
-        dearer = omega (arith, u.room, chosen.0.dearer found)
+      pub walk_better : r.time < t → Underway c whole r.plan r.plan r.time m
+      walk_better l =
+          let less = lt-ltb (time c (modules_of r.plan c.tasks)) (time c (modules_of best c.tasks)) (omega (arith, u.timed, chosen.0.timed)) in
+          record { held = chosen.0.held; best_held = chosen.0.held; room = dearer; timed = chosen.0.timed; ends = goes ∙ rw less }
 
-        pub walk_better : r.time < t → Underway c whole r.plan r.plan r.time (n - 1)
-        walk_better l =
-            let less = lt-ltb (time c (modules_of r.plan c.tasks)) (time c (modules_of best c.tasks)) (omega (arith, u.timed, chosen.0.timed found)) in
-            record { held = chosen.0.held found; best_held = chosen.0.held found; room = dearer; timed = chosen.0.timed found; ends = goes ∙ rw less }
-
-        pub walk_worse : t ≤ r.time → Underway c whole r.plan best t (n - 1)
-        walk_worse l =
-            let more = le-ltb (time c (modules_of r.plan c.tasks)) (time c (modules_of best c.tasks)) (omega (arith, u.timed, chosen.0.timed found)) in
-            record { held = chosen.0.held found; best_held = u.best_held; room = dearer; timed = u.timed; ends = goes ∙ rw more }
+      pub walk_worse : t ≤ r.time → Underway c whole r.plan best t m
+      walk_worse l =
+          let more = le-ltb (time c (modules_of r.plan c.tasks)) (time c (modules_of best c.tasks)) (omega (arith, u.timed, chosen.0.timed)) in
+          record { held = chosen.0.held; best_held = u.best_held; room = dearer; timed = u.timed; ends = goes ∙ rw more }

@@ -1,16 +1,19 @@
 -- The greedy procedure of source document 000, section 4.1, on document 01's terms ("Bench way"), with the limits of document 02,
 -- M-100: every module has one copy, and the grouping fixes which tasks share one. Assumes nothing.
-use Rattle.std.specs.Prelude.{ℕ, zero, suc, ◌+◌, ◌-◌, ◌/◌, ◌%◌, ◌^◌, ◌≤◌, ◌<◌, ◌≡◌, Bool, true, cond, ◌&&◌, length, get_or, drop, ltb, leb, eqb}
+use Rattle.std.specs.Prelude.{ℕ, zero, suc, ◌+◌, ◌-◌, ◌/◌, ◌%◌, ◌^◌, ◌≤◌, ◌<◌, ◌≡◌, Bool, true, cond, ◌&&◌, length, get_or, drop, ltb, leb, eqb, Result, Ok, Err}
 use mathlib.Core.List.{List, [], ◌∷◌, ◌++◌, Memᴰ}
 use Rattle.std.proofs.Math.Option.{Option, none, some}
-use Rattle.records.specs.Costs.{read_costs}
+use Rattle.records.specs.declared.refusal.Refusal.{Refusal}
+use Rattle.records.specs.declared.refusal.Refusal.TheVariants.{ShortPlan, NoGrouping, NoStart}
+use Rattle.records.specs.Refusals.{number_in, and_then}
+use Rattle.records.specs.Costs.{board_in, read_costs}
 use Rattle.modules.specs.declared.Module.{Module}
 use Rattle.modules.specs.Model.{Chain, chain_of}
 use Rattle.modules.specs.Rules.{module_limit, within_limit, fewest_cores}
 use Rattle.layout.specs.Layout.{plan_bytes, encode_plan}
-use Rattle.figures.specs.declared.Answer.{Answer}
+use Rattle.figures.specs.declared.PlanFigures.{PlanFigures}
 use Rattle.figures.specs.Model.{cores_of, bottleneck}
-use Rattle.figures.specs.Plan.{figures_of, refusal}
+use Rattle.figures.specs.Plan.{figures_of}
 use Rattle.judge.specs.Judge.{first_failing, limit_test}
 use Rattle.judge.specs.Claims.{no_module}
 
@@ -115,25 +118,20 @@ pub record OverLimit (c : Chain) (ms : List Module) : Type 0 where
 unfoldable pub start_fits : Chain → ℕ → Bool
 start_fits c g = leb (cores_of (start c g)) c.board && eqb (first_failing (limit_test c) 1 (start c g)) 0
 
-unfoldable pub greedy_on : Chain → ℕ → Answer
+unfoldable pub greedy_on : Chain → ℕ → Result PlanFigures Refusal
 greedy_on c g =
     cond (ltb g (2 ^ (c.tasks - 1)))
-    (cond (start_fits c g) (figures_of c (greedy_plan c g)) (refusal 11 0))
-    (refusal 10 0)
+    (cond (start_fits c g) (Ok (figures_of c (greedy_plan c g))) (Err NoStart))
+    (Err NoGrouping)
 
 -- what the service answers to costs, a grouping and plan bytes
-unfoldable pub greedy_answer : List ℕ → ℕ → List ℕ → Answer
-greedy_answer s g w =
-    let r = read_costs s in
-    cond (eqb r.number 0)
-    (cond (leb plan_bytes (length w)) (greedy_on (chain_of s r.board) g) (refusal 7 0))
-    (refusal r.number r.place)
+unfoldable pub greedy_answer : List ℕ → ℕ → List ℕ → Result PlanFigures Refusal
+greedy_answer s g w = and_then (λ b. cond (leb plan_bytes (length w)) (greedy_on (chain_of s b) g) (Err ShortPlan)) (read_costs s)
 
 -- what the plan bytes w are afterwards: the plan's and what lay behind them, or as lent where it refuses
 unfoldable pub greedy_bytes_on : Chain → ℕ → List ℕ → List ℕ
-greedy_bytes_on c g w = cond (eqb (greedy_on c g).number 0) (encode_plan (greedy_plan c g) ++ drop plan_bytes w) w
+greedy_bytes_on c g w = cond (eqb (number_in (greedy_on c g)) 0) (encode_plan (greedy_plan c g) ++ drop plan_bytes w) w
 
 unfoldable pub greedy_bytes : List ℕ → ℕ → List ℕ → List ℕ
 greedy_bytes s g w =
-    let r = read_costs s in
-    cond (eqb r.number 0 && leb plan_bytes (length w)) (greedy_bytes_on (chain_of s r.board) g w) w
+    cond (eqb (number_in (read_costs s)) 0 && leb plan_bytes (length w)) (greedy_bytes_on (chain_of s (board_in (read_costs s))) g w) w

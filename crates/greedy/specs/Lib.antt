@@ -1,2 +1,3 @@
 pub mod Assignment
+pub mod Docks
 pub mod Greedy

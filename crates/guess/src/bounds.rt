@@ -5,7 +5,6 @@ ghost use Rattle.modules.specs.Reach.{reach};
 ghost use Rattle.slack.specs.Problem.{top_threshold};
 ghost use Rattle.guess.specs.Guess.{threshold_of};
 
-use crate::choice::{larger, lesser};
 use crate::{GRAIN, Hunt, TOP, TOP_RESPONSE};
 use modules::Module;
 use records::Board;
@@ -15,115 +14,139 @@ use records::Board;
 pub fn threshold_of(response: u64, copies: u32) -> u64
     ensures { result ≡ threshold_of response copies }
 {
-    let several = copies as u64;
-    if TOP_RESPONSE * several < response {
-        return TOP + 1;
-    }
-    if several < 1 {
+    let several = u64::from(copies);
+    if several < 1 || TOP_RESPONSE * several < response {
         return TOP + 1;
     }
     let whole = response / several;
     let rest = response % several;
-    whole * GRAIN + (rest * GRAIN + (several - 1)) / several
+    whole * GRAIN + (rest * GRAIN).div_ceil(several)
 }
 
-// The response of a module by itself, which ends within its reach (document 02, M-102).
-fn response_alone(costs: &[u8], board: Board, m: Module) -> u64
-    requires { m.last ≤ reach (chain_of costs.now board) m.first }
-{
-    modules::response_of(costs, board, 0, m, 0)
+// The costs of a dock with its board, whatever they are.
+#[derive(Clone, Copy)]
+struct Dock<'a> {
+    costs: &'a [u8],
+    board: Board,
 }
 
-// As many copies of q cores as the module may have on the board.
-fn copies_of(costs: &[u8], board: Board, first: u8, last: u8, q: u8) -> u8
-    requires { 1 ≤ q }
-{
-    if modules::copies_allowed(costs, board, first, last, 2) {
-        return board.cores / q;
-    }
-    1
+// Some tasks of a board in a row, those of a module.
+#[derive(Clone, Copy)]
+struct Run<'a> {
+    dock: Dock<'a>,
+    first: u8,
+    last: u8,
+    ghost from_first: { 1 ≤ first },
+    ghost in_order: { first ≤ last },
+    ghost last_most: { last ≤ dock.board.tasks },
 }
 
-// The threshold of the module of q cores by itself, in as many copies as the board has room for; TOP + 1 where it breaks a rule.
-fn alone(costs: &[u8], board: Board, first: u8, last: u8, q: u8) -> u64
-    requires { (1 ≤ first) × (first ≤ last) × (last ≤ board.tasks) × (1 ≤ q) × (q ≤ board.cores) }
-{
-    if !modules::rules_met(costs, board, first, last, 1, q) {
-        return TOP + 1;
+impl Run<'_> {
+    // As many copies of q cores as the module may have on the board.
+    fn copies(&self, q: u8) -> u8
+        requires { 1 ≤ q }
+    {
+        if modules::copies_allowed(self.dock.costs, self.dock.board, self.first, self.last, 2) {
+            return self.dock.board.cores / q;
+        }
+        1
     }
-    let copies = copies_of(costs, board, first, last, q);
-    let m = Module {
-        first,
-        last,
-        copies,
-        cores: q,
-    };
-    threshold_of(response_alone(costs, board, m), copies as u32)
+
+    // The threshold of the module of q cores by itself, in as many copies as the board has room for; TOP + 1 where it breaks a rule.
+    fn alone(&self, q: u8) -> u64
+        requires { (1 ≤ q) × (q ≤ self.now.dock.board.cores) }
+    {
+        let Dock { costs, board } = self.dock;
+        if !modules::rules_met(costs, board, self.first, self.last, 1, q) {
+            return TOP + 1;
+        }
+        let copies = self.copies(q);
+        let m = Module {
+            first: self.first,
+            last: self.last,
+            copies,
+            cores: q,
+        };
+        threshold_of(self.dock.response_alone(m), u32::from(copies))
+    }
+
+    // The least threshold of the module by itself, over all cores.
+    fn least_alone(&self) -> u64
+        ensures { result ≤ top_threshold + 1 }
+    {
+        // Named, since the check does not find the bounds of a field that lies deeper.
+        let cores = self.dock.board.cores;
+        let mut least = TOP + 1;
+        for q in 1..=cores {
+            least = least.min(self.alone(q));
+        }
+        least
+    }
 }
 
-// The least threshold of the module by itself, over all cores.
-fn least_alone(costs: &[u8], board: Board, first: u8, last: u8) -> u64
-    requires { (1 ≤ first) × (first ≤ last) × (last ≤ board.tasks) }
-    ensures { result ≤ top_threshold + 1 }
-{
-    let mut least = TOP + 1;
-    let mut q: u8 = 0;
-    while q < board.cores {
-        q += 1;
-        let own = alone(costs, board, first, last, q);
-        least = lesser(least, own);
+impl Dock<'_> {
+    // The response of a module by itself, which ends within its reach (document 02, M-102).
+    fn response_alone(&self, m: Module) -> u64
+        requires { m.last ≤ reach (chain_of self.now.costs.now self.now.board) m.first }
+    {
+        modules::response_of(self.costs, self.board, 0, m, 0)
     }
-    least
-}
 
-// The least core-ticks of a task.
-fn area(costs: &[u8], board: Board, t: u8) -> u64
-    ensures { result < 4294967296 }
-{
-    let mut least: u64 = 4294967295;
-    let mut q: u8 = 0;
-    while q < board.cores {
-        q += 1;
-        let own = (held::execution(costs, board, t, q) as u64) * (q as u64);
-        least = lesser(least, own);
+    // The least core-ticks of a task.
+    fn area(&self, t: u8) -> u64
+        ensures { result < 4294967296 }
+    {
+        let mut least = u64::from(u32::MAX);
+        for q in 1..=self.board.cores {
+            let own = u64::from(held::execution(self.costs, self.board, t, q)) * u64::from(q);
+            least = least.min(own);
+        }
+        least
     }
-    least
-}
 
-// What no plan, most likely, is below: the work spread over all cores, and each task by itself.
-fn bound(costs: &[u8], board: Board) -> u64 {
-    if board.cores < 1 {
-        return TOP + 1;
+    // What no plan, most likely, is below: the work spread over all cores, and each task by itself.
+    fn bound(&self) -> u64 {
+        if self.board.cores < 1 {
+            return TOP + 1;
+        }
+        let mut most: u64 = 0;
+        let mut sum: u64 = 0;
+        for t in 1..=self.board.tasks {
+            let task = Run {
+                dock: *self,
+                first: t,
+                last: t,
+            };
+            most = most.max(task.least_alone());
+            sum += self.area(t);
+        }
+        most.max(sum * GRAIN / u64::from(self.board.cores))
     }
-    let mut most: u64 = 0;
-    let mut sum: u64 = 0;
-    let mut t: u8 = 0;
-    while t < board.tasks {
-        t += 1;
-        let own = least_alone(costs, board, t, t);
-        most = larger(most, own);
-        sum += area(costs, board, t);
-    }
-    larger(most, sum * GRAIN / (board.cores as u64))
-}
 
-// The threshold of the best plan of one module; TOP + 1 where there is none.
-fn single(costs: &[u8], board: Board) -> u64 {
-    if board.tasks < 1 {
-        return TOP + 1;
+    // The threshold of the best plan of one module; TOP + 1 where there is none.
+    fn single(&self) -> u64 {
+        if self.board.tasks < 1 {
+            return TOP + 1;
+        }
+        let whole = Run {
+            dock: *self,
+            first: 1,
+            last: self.board.tasks,
+        };
+        whole.least_alone()
     }
-    least_alone(costs, board, 1, board.tasks)
 }
 
 // The search before its first try.
 pub fn start(costs: &[u8], board: Board) -> Hunt
     ensures { (result.lo ≡ 0) × (result.hi ≡ top_threshold + 1) }
 {
+    let dock = Dock { costs, board };
     Hunt {
         lo: 0,
         hi: TOP + 1,
-        bound: bound(costs, board),
-        single: single(costs, board),
+        bound: dock.bound(),
+        single: dock.single(),
         cores: 0,
         misses: 0,
         finds: 0,

@@ -19,6 +19,8 @@ const TOP_RESPONSE: u64 = 23000255;
 // Fractions whose denominators are at most 32 are equal or at least 1/1024 apart.
 pub const GRAIN: u64 = 1024;
 
+// TOP + 1 stands for "none" here, and for a threshold that no plan is within: a bracket ends there, and in a minimum it drops out.
+//
 // The search so far: no plan is within a threshold below lo; some plan is within hi, or hi is TOP + 1. All else is for guesses: what no
 // plan, most likely, is below, and the threshold of the best plan of one module; the fewest cores of a plan within hi, and the tries
 // without a plan and with one since the last other.

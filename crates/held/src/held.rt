@@ -1,5 +1,4 @@
-// Cost records that were read, held in a struct with k and P: few thin lookups over the functions on slice and numbers, and above
-// them functions with plain parameters that make the struct and pass it on.
+// Cost records that were read, held in a struct with k and P: thin lookups over the functions on slice and numbers.
 ghost use Rattle.std.specs.Prelude.{◌≡◌};
 ghost use Rattle.lookups.specs.Lookups.{hand_out_of, need_of, replicable_of, limit_of, execution_of, internal_of, pair_of, external_of, board_with};
 ghost use Rattle.held.specs.Held.{Holds};
@@ -74,48 +73,4 @@ pub fn external_held<'a>(c: Costs<'a>, task: u8, s: u8, q: u8) -> u32
     ensures { result ≡ external_of (pair_of c.entry.records.now (board_with c.entry.tasks c.entry.cores) task) c.entry.cores s q }
 {
     external_at(c.records, c.tasks, c.cores, task, s, q)
-}
-
-// ---- with plain parameters: whoever calls these needs no walk
-
-pub(crate) fn hand_out_of(records: &[u8], tasks: u8, cores: u8) -> u32
-    ensures { result ≡ hand_out_of records.now }
-{
-    hand_out_held(hold(records, tasks, cores))
-}
-
-pub(crate) fn need_of(records: &[u8], tasks: u8, cores: u8, task: u8) -> u32
-    ensures { result ≡ need_of records.now (board_with tasks cores) task }
-{
-    need_held(hold(records, tasks, cores), task)
-}
-
-pub(crate) fn replicable_of(records: &[u8], tasks: u8, cores: u8, task: u8) -> bool
-    ensures { result ≡ replicable_of records.now (board_with tasks cores) task }
-{
-    replicable_held(hold(records, tasks, cores), task)
-}
-
-pub(crate) fn limit_of(records: &[u8], tasks: u8, cores: u8, task: u8) -> u32
-    ensures { result ≡ limit_of records.now (board_with tasks cores) task }
-{
-    limit_held(hold(records, tasks, cores), task)
-}
-
-pub(crate) fn execution_of(records: &[u8], tasks: u8, cores: u8, task: u8, p: u8) -> u32
-    ensures { result ≡ execution_of records.now (board_with tasks cores) task p }
-{
-    execution_held(hold(records, tasks, cores), task, p)
-}
-
-pub(crate) fn internal_of(records: &[u8], tasks: u8, cores: u8, task: u8, p: u8) -> u32
-    ensures { result ≡ internal_of records.now (board_with tasks cores) task p }
-{
-    internal_held(hold(records, tasks, cores), task, p)
-}
-
-pub(crate) fn external_of(records: &[u8], tasks: u8, cores: u8, task: u8, s: u8, q: u8) -> u32
-    ensures { result ≡ external_of (pair_of records.now (board_with tasks cores) task) cores s q }
-{
-    external_held(hold(records, tasks, cores), task, s, q)
 }

@@ -12,6 +12,7 @@ use lib.Seq.{take_all, length-take-le}
 use borrow.Author.Tests.{le-leb}
 use Rattle.records.specs.Costs.{read_costs}
 use Rattle.records.proofs.Cases.{lt_or_le}
+use Rattle.records.proofs.Refusing.{then_same}
 use Rattle.modules.specs.declared.Module.{Module}
 use Rattle.modules.specs.Model.{Chain, chain_of}
 use Rattle.layout.specs.Layout.{most_modules, plan_bytes, module_at}
@@ -44,4 +45,4 @@ module _ (w : List ℕ) where
 
 pub judge_first : (s w : List ℕ) → judged s (take plan_bytes w) ≡ judged s w
 unfolding judged
-judge_first s w = rw (bytes_first w (chain_of s (read_costs s).board))
+judge_first s w = then_same (λ b. bytes_first w (chain_of s b)) (read_costs s)

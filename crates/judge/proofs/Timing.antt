@@ -1,31 +1,33 @@
 -- The single-block time as a service (document 02, M-104): Judge's refusals, else the time of the plan that Judge passes, which is at most
 -- 23,003,060 ticks. By what Judge passes. Assumes nothing.
-use mathlib.Core.Path.{◌≡◌, refl, sym, ap, subst, ◌∙◌}
+use mathlib.Core.Path.{◌≡◌, sym, ap, subst, ◌∙◌}
+use mathlib.Core.Bool.{true}
 use mathlib.Core.List.{List}
 use mathlib.Core.Logic.{⊎_elim}
 use Prim.Native.Nat.{ℕ, ◌≤◌}
 use native.Mathlib.Omega.{arith}
-use lib.Dec.{eqb}
 use lib.ListN.{take}
-use borrow.Author.Tests.{eq-eqb, ne_eqb, eqb-true, eqb-false}
-use Rattle.records.specs.declared.Filled.{Filled}
-use Rattle.records.specs.declared.Reading.{Reading}
-use Rattle.records.specs.Costs.{read_costs}
-use Rattle.records.specs.Filled.{filled_in, unfilled}
-use Rattle.records.proofs.Cases.{true_or_false}
-use Rattle.records.proofs.Laws.{accepted_costs}
+use Rattle.std.specs.Prelude.{Result, Ok, Err}
+use Rattle.records.specs.declared.refusal.Refusal.{Refusal}
+use Rattle.records.specs.Refusals.{number_in}
+use Rattle.records.proofs.Refusing.{refused_or_not}
+use Rattle.records.specs.declared.Board.{Board}
+use Rattle.records.specs.Costs.{board_in, read_costs}
+use Rattle.records.specs.Filled.{count_in}
+use Rattle.records.proofs.Laws.{accepted_costs, read_accepts}
 use Rattle.modules.specs.Model.{chain_of}
 use Rattle.layout.specs.Layout.{plan_bytes, modules_of}
 use Rattle.layout.proofs.First.{plan_first}
-use Rattle.figures.specs.declared.Answer.{Answer}
+use Rattle.figures.specs.declared.PlanFigures.{PlanFigures}
+use Rattle.figures.specs.Rules.{keeps_rules}
 use Rattle.figures.specs.Model.{block_time}
 use Rattle.figures.proofs.Decoding.{decode_plan}
 use Rattle.figures.proofs.Kept.{keeps_parts}
 use Rattle.figures.proofs.Laws.{plan_block_time}
-use Rattle.judge.specs.Judge.{judged}
+use Rattle.judge.specs.Judge.{judged_bytes, judged}
 use Rattle.judge.specs.Timed.{block_time_answer}
 use Rattle.judge.specs.Claims.{chain, plan, Passes, Times, Times.timed, Times.refused}
-use Rattle.judge.proofs.Passing.{judge_finds, judge_only, number_passes, passes_number}
+use Rattle.judge.proofs.Passing.{judge_finds, judge_only, number_passes, passes_figures}
 use Rattle.judge.proofs.Reading.{judge_first}
 
 module _ (s w : List ℕ) where
@@ -37,50 +39,68 @@ module _ (s w : List ℕ) where
 
   -- ---- the answer, by what the code has found
 
-  module _ {a : Answer} (found : a ≡ judged s w) where
-    pub time_refused : (a.number ≡ 0 → ⊥) → unfilled a.number a.place ≡ block_time_answer s w
-    unfolding block_time_answer
-    time_refused n = rw (← found) (simp (ne_eqb a.number 0 n))
+  -- the costs refused, or the plan
+  pub time_unread : {e : Refusal} → read_costs s ≡ Err e → Err e ≡ block_time_answer s w
+  unfolding block_time_answer judged
+  time_unread h = simp h
 
-    pub time_given : {r : Reading} {x : ℕ} → a.number ≡ 0 → r ≡ read_costs s → x ≡ block_time (chain_of s r.board) (modules_of w r.board.tasks) → filled_in x ≡ block_time_answer s w
-    unfolding block_time_answer
-    time_given e read is = rw (← found, ← read, is) (simp (eq-eqb a.number 0 e))
+  module _ {b : Board} (read : read_costs s ≡ Ok b) where
+    judged_here : judged s w ≡ judged_bytes (chain_of s b) w
+    unfolding judged
+    judged_here = simp read
 
-    pub time_small : {r : Reading} {x : ℕ} → a.number ≡ 0 → r ≡ read_costs s → x ≡ block_time (chain_of s r.board) (modules_of w r.board.tasks) → x ≤ 23003060
-    time_small e read is =
-        let p = number_passes s w (rw (← found) e) in
-        rw (is, read, plan_said p) (plan_block_time s (read_costs s).board (accepted_costs s p.readable.accepted) p.modules p.keeps)
+    pub time_refused : {e : Refusal} → judged_bytes (chain_of s b) w ≡ Err e → Err e ≡ block_time_answer s w
+    unfolding block_time_answer
+    time_refused h = let found = judged_here ∙ h in simp found
+
+    pub time_given : {f : PlanFigures} {x : ℕ} → judged_bytes (chain_of s b) w ≡ Ok f → x ≡ block_time (chain_of s b) (modules_of w b.tasks) → Ok x ≡ block_time_answer s w
+    unfolding block_time_answer
+    time_given h is = let found = judged_here ∙ h in rw found (simp (read, is))
+
+    pub time_small : {f : PlanFigures} {x : ℕ} → judged_bytes (chain_of s b) w ≡ Ok f → x ≡ block_time (chain_of s b) (modules_of w b.tasks) → x ≤ 23003060
+    time_small h is =
+        let p = number_passes s w (rw (judged_here ∙ h)) in
+        let board : board_in (read_costs s) ≡ b = rw read in
+        let said : modules_of w b.tasks ≡ p.modules = subst (λ (d : Board). modules_of w d.tasks ≡ p.modules) board (plan_said p) in
+        let keeps : keeps_rules (chain_of s b) p.modules ≡ true = subst (λ (d : Board). keeps_rules (chain_of s d) p.modules ≡ true) board p.keeps in
+        rw (is, said) (plan_block_time s b ((read_accepts s b).0 read) p.modules keeps)
 
   -- ---- for a reader
 
-  pub time_passed : (p : Passes s w) → block_time_answer s w ≡ filled_in (block_time (chain s w) p.modules)
-  time_passed p = sym (time_given refl (passes_number s w p) refl refl) ∙ ap (λ ms. filled_in (block_time (chain s w) ms)) (plan_said p)
+  pub time_passed : (p : Passes s w) → block_time_answer s w ≡ Ok (block_time (chain s w) p.modules)
+  unfolding block_time_answer
+  time_passed p = rw (passes_figures s w p) (ap (λ ms. Ok (block_time (chain s w) ms)) (plan_said p))
 
   pub time_finds : Times s w (block_time_answer s w)
+  unfolding block_time_answer
   time_finds = ⊎_elim
-      (λ t. let p = number_passes s w (eqb-true (judged s w).number 0 t) in subst (Times s w) (sym (time_passed p)) (timed p))
-      (λ t. let n = eqb-false (judged s w).number 0 t in subst (Times s w) (time_refused refl n) (refused (judged s w) (judge_finds s w) n))
-      (true_or_false (eqb (judged s w).number 0))
+      (λ (t : (f : PlanFigures) × (judged s w ≡ Ok f)). let p = number_passes s w (rw t.1) in subst (Times s w) (sym (time_passed p)) (timed p))
+      (λ (t : (e : Refusal) × (judged s w ≡ Err e)). rw t.1 (refused t.0 (rw t.1 at (judge_finds s w))))
+      (refused_or_not (judged s w))
 
-  pub time_only : (a : Filled) → Times s w a → block_time_answer s w ≡ a
+  pub time_only : (a : Result ℕ Refusal) → Times s w a → block_time_answer s w ≡ a
+  unfolding block_time_answer
   time_only a (timed p) = time_passed p
-  time_only a (refused x j n) = sym (time_refused (sym (judge_only s w x j)) n)
+  time_only a (refused e j) = rw (judge_only s w (Err e) j)
 
   -- its refusal's number is Judge's
-  pub time_number : (judged s w).number ≡ (block_time_answer s w).refusal
+  pub time_number : number_in (judged s w) ≡ number_in (block_time_answer s w)
+  unfolding block_time_answer
   time_number = ⊎_elim
-      (λ t. let e = eqb-true (judged s w).number 0 t in e ∙ ap (λ (f : Filled). f.refusal) (time_given refl e refl refl))
-      (λ t. ap (λ (f : Filled). f.refusal) (time_refused refl (eqb-false (judged s w).number 0 t)))
-      (true_or_false (eqb (judged s w).number 0))
+      (λ (t : (f : PlanFigures) × (judged s w ≡ Ok f)). rw t.1)
+      (λ (t : (e : Refusal) × (judged s w ≡ Err e)). rw t.1)
+      (refused_or_not (judged s w))
 
-  pub time_most : (block_time_answer s w).count ≤ 23003060
+  pub time_most : count_in (block_time_answer s w) ≤ 23003060
+  unfolding block_time_answer
   time_most = ⊎_elim
-      (λ t. let e = eqb-true (judged s w).number 0 t in
-      omega (arith, ap (λ (f : Filled). f.count) (time_given refl e refl refl), time_small {a = judged s w} refl e refl refl))
-      (λ t. omega (arith, ap (λ (f : Filled). f.count) (time_refused refl (eqb-false (judged s w).number 0 t))))
-      (true_or_false (eqb (judged s w).number 0))
+      (λ (t : (f : PlanFigures) × (judged s w ≡ Ok f)).
+      let p = number_passes s w (rw t.1) in
+      rw (time_passed p) (plan_block_time s (board_in (read_costs s)) (accepted_costs s p.readable.accepted) p.modules p.keeps))
+      (λ (t : (e : Refusal) × (judged s w ≡ Err e)). rw t.1 (omega arith))
+      (refused_or_not (judged s w))
 
 -- bytes after the 48th are not read
 pub time_first : (s w : List ℕ) → block_time_answer s (take plan_bytes w) ≡ block_time_answer s w
 unfolding block_time_answer
-time_first s w = rw (judge_first s w, plan_first w (chain_of s (read_costs s).board).tasks)
+time_first s w = rw (judge_first s w, plan_first w (chain_of s (board_in (read_costs s))).tasks)

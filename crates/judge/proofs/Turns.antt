@@ -1,15 +1,16 @@
 -- One turn of each search: what is found now, or what is left gives the same as the whole. A turn has the module that it
 -- read and the test's result. Assumes nothing.
 use mathlib.Core.Path.{◌≡◌, refl, sym, ◌∙◌}
-use mathlib.Core.Bool.{Bool, true, false, not}
+use mathlib.Core.Bool.{Bool, true, false, cond, not}
+use lib.Dec.{eqb}
+use Rattle.std.specs.Prelude.{Option, None, Some}
 use mathlib.Core.List.{List}
 use Prim.Native.Nat.{ℕ, ◌+◌, ◌-◌, ◌≤◌, ◌<◌}
 use borrow.Author.Tests.{eq-eqb, ne_eqb, not-true, not-false}
 use Rattle.modules.specs.declared.Module.{Module}
-use Rattle.modules.specs.Model.{Chain}
 use Rattle.modules.proofs.Left.{left_some, left_none}
 use Rattle.layout.specs.Layout.{module_at, modules_from}
-use Rattle.judge.specs.Judge.{is_blank, is_module, blank_fault, shape_fault, first_failing, copies_test, memory_test, limit_test, rule_test}
+use Rattle.judge.specs.Judge.{is_blank, is_module, blank_fault, shape_fault, first_failing, at_place}
 
 module _ (w : List ℕ) (i n : ℕ) where
   pub blank_end : n ≤ i → blank_fault w i (n - i) ≡ 0
@@ -57,16 +58,39 @@ module _ (w : List ℕ) (i n : ℕ) where
       unfolding first_failing modules_from
       failing_next g = rw (left_some h) (simp (sym (rw e at b) ∙ not-false t g))
 
--- the tests by their numbers
-module _ (c : Chain) (ms : List Module) where
-  pub rule_13 : first_failing (rule_test c 13) 1 ms ≡ first_failing (copies_test c) 1 ms
-  unfolding rule_test
-  rule_13 = refl
+-- ---- places
 
-  pub rule_14 : first_failing (rule_test c 14) 1 ms ≡ first_failing (memory_test c) 1 ms
-  unfolding rule_test
-  rule_14 = refl
+not_some : {p : ℕ} → ◌≡◌ {A = Option ℕ} (Some p) None → ⊥
+not_some h = cc
 
-  pub rule_16 : first_failing (rule_test c 16) 1 ms ≡ first_failing (limit_test c) 1 ms
-  unfolding rule_test
-  rule_16 = refl
+same_some : {n p : ℕ} → ◌≡◌ {A = Option ℕ} (Some n) (Some p) → n ≡ p
+same_some h = cc
+
+pub at_some : {n x : ℕ} → n ≡ x → (n ≡ 0 → ⊥) → Some n ≡ at_place x
+at_some {n} e h = rw (← e) (simp (ne_eqb n 0 h))
+
+pub at_none : {x : ℕ} → x ≡ 0 → None ≡ at_place x
+at_none {x} e = simp (eq-eqb x 0 e)
+
+-- a place that is there is the number, which is not 0
+pub some_value : (n : ℕ) {p : ℕ} {r : Option ℕ} → r ≡ at_place n → r ≡ Some p → n ≡ p
+some_value n {p} e h = placed (eqb n 0) (sym e ∙ h)
+  where
+    placed : (t : Bool) → cond t None (Some n) ≡ Some p → n ≡ p
+    placed true g = absurd (not_some (sym g))
+    placed false g = same_some g
+
+pub some_there : (n : ℕ) {p : ℕ} {r : Option ℕ} → r ≡ at_place n → r ≡ Some p → eqb p 0 ≡ false
+some_there n {p} e h = placed (eqb n 0) refl (sym e ∙ h)
+  where
+    placed : (t : Bool) → eqb n 0 ≡ t → cond t None (Some n) ≡ Some p → eqb p 0 ≡ false
+    placed true f g = absurd (not_some (sym g))
+    placed false f g = rw (← same_some g) f
+
+-- and of none the number is 0
+pub no_place : (n : ℕ) {r : Option ℕ} → r ≡ at_place n → r ≡ None → eqb n 0 ≡ true
+no_place n e h = placed (eqb n 0) refl (sym e ∙ h)
+  where
+    placed : (t : Bool) → eqb n 0 ≡ t → cond t None (Some n) ≡ None → eqb n 0 ≡ true
+    placed true f g = f
+    placed false f g = absurd (not_some g)

@@ -1,16 +1,17 @@
 -- The documents' words on Judge's refusals as direct statements, beside the definition that runs: when each is due, with which place
 -- (document 01; document 02, M-100); and of which plan the single-block time is answered (M-104). Assumes nothing.
-use Rattle.std.specs.Prelude.{◌≡◌, Bool, true, false, List, ℕ, zero, suc, ◌+◌, ◌≤◌, ◌<◌, length, get_or, take}
-use Rattle.records.specs.declared.Filled.{Filled}
-use Rattle.records.specs.Costs.{read_costs}
-use Rattle.records.specs.Filled.{filled_in, unfilled}
+use Rattle.std.specs.Prelude.{◌≡◌, Bool, true, false, List, ℕ, zero, suc, ◌+◌, ◌≤◌, ◌<◌, length, get_or, take, Result, Ok, Err}
+use Rattle.records.specs.declared.refusal.Refusal.{Refusal}
+use Rattle.records.specs.declared.refusal.Refusal.TheVariants.{ShortPlan, BadShape, NoCopies, OverMemory, OverCores, AboveLimit}
+use Rattle.records.specs.Refusals.{number_in}
+use Rattle.records.specs.Costs.{board_in, read_costs}
 use Rattle.modules.specs.declared.Module.{Module}
 use Rattle.modules.specs.Model.{Chain, chain_of}
 use Rattle.layout.specs.Layout.{most_modules, plan_bytes, module_at, modules_of, encode_plan}
-use Rattle.figures.specs.declared.Answer.{Answer}
+use Rattle.figures.specs.declared.PlanFigures.{PlanFigures}
 use Rattle.figures.specs.Model.{cores_of, block_time}
 use Rattle.figures.specs.Rules.{keeps_rules}
-use Rattle.figures.specs.Plan.{figures_of, refusal}
+use Rattle.figures.specs.Plan.{figures_of}
 use Rattle.judge.specs.Judge.{is_blank, is_module, copies_test, memory_test, limit_test}
 
 -- ---- refusal 12
@@ -59,29 +60,29 @@ pub record FailsAt (f : Module → Bool) (ms : List Module) (i : ℕ) : Type 0 w
 module _ (s w : List ℕ) where
   -- the costs are accepted, and the plan bytes are long enough
   pub record Readable : Type 0 where
-    pub accepted : (read_costs s).number ≡ 0
+    pub accepted : number_in (read_costs s) ≡ 0
     pub long : plan_bytes ≤ length w
 
   -- the chain of accepted costs, and the modules of the plan bytes
   abbrev pub chain : Chain
-  chain = chain_of s (read_costs s).board
+  chain = chain_of s (board_in (read_costs s))
 
   abbrev pub plan : List Module
   plan = modules_of w chain.tasks
 
   -- what Judge is to answer, each refusal under its condition and with its place
-  pub data Judges : Answer → Type 0 where
-    costs_wrong : ((read_costs s).number ≡ 0 → ⊥) → Judges (refusal (read_costs s).number (read_costs s).place)
-    bytes_short : (read_costs s).number ≡ 0 → length w < plan_bytes → Judges (refusal 7 0)
-    shape_wrong : Readable → (i : ℕ) → WrongShape chain.tasks w i → Judges (refusal 12 (i + 1))
-    copies_wrong : Readable → RightShape chain.tasks w → (i : ℕ) → FailsAt (copies_test chain) plan i → Judges (refusal 13 (i + 1))
-    memory_wrong : Readable → RightShape chain.tasks w → AllPass (copies_test chain) plan → (i : ℕ) → FailsAt (memory_test chain) plan i → Judges (refusal 14 (i + 1))
+  pub data Judges : Result PlanFigures Refusal → Type 0 where
+    costs_wrong : (e : Refusal) → read_costs s ≡ Err e → Judges (Err e)
+    bytes_short : number_in (read_costs s) ≡ 0 → length w < plan_bytes → Judges (Err ShortPlan)
+    shape_wrong : Readable → (i : ℕ) → WrongShape chain.tasks w i → Judges (Err (BadShape (i + 1)))
+    copies_wrong : Readable → RightShape chain.tasks w → (i : ℕ) → FailsAt (copies_test chain) plan i → Judges (Err (NoCopies (i + 1)))
+    memory_wrong : Readable → RightShape chain.tasks w → AllPass (copies_test chain) plan → (i : ℕ) → FailsAt (memory_test chain) plan i → Judges (Err (OverMemory (i + 1)))
     limit_wrong : Readable → RightShape chain.tasks w → AllPass (copies_test chain) plan → AllPass (memory_test chain) plan
-        → (i : ℕ) → FailsAt (limit_test chain) plan i → Judges (refusal 16 (i + 1))
+        → (i : ℕ) → FailsAt (limit_test chain) plan i → Judges (Err (AboveLimit (i + 1)))
     cores_wrong : Readable → RightShape chain.tasks w → AllPass (copies_test chain) plan → AllPass (memory_test chain) plan → AllPass (limit_test chain) plan
-        → chain.board < cores_of plan → Judges (refusal 15 0)
+        → chain.board < cores_of plan → Judges (Err OverCores)
     passed : Readable → RightShape chain.tasks w → AllPass (copies_test chain) plan → AllPass (memory_test chain) plan → AllPass (limit_test chain) plan
-        → cores_of plan ≤ chain.board → Judges (figures_of chain plan)
+        → cores_of plan ≤ chain.board → Judges (Ok (figures_of chain plan))
 
   -- the first 48 bytes are a plan's that keeps the rules
   pub record Passes : Type 0 where
@@ -91,6 +92,6 @@ module _ (s w : List ℕ) where
     pub keeps : keeps_rules chain modules ≡ true
 
   -- M-104: what is to be answered for the single-block time: that of the plan that Judge passes, else Judge's refusal with its place
-  pub data Times : Filled → Type 0 where
-    timed : (p : Passes) → Times (filled_in (block_time chain p.modules))
-    refused : (a : Answer) → Judges a → (a.number ≡ 0 → ⊥) → Times (unfilled a.number a.place)
+  pub data Times : Result ℕ Refusal → Type 0 where
+    timed : (p : Passes) → Times (Ok (block_time chain p.modules))
+    refused : (e : Refusal) → Judges (Err e) → Times (Err e)

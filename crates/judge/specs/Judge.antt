@@ -1,13 +1,18 @@
 -- The service Judge (document 01, "Three services", refusals 7 and 12 to 15; document 02, M-100, refusal 16). Assumes nothing.
-use Rattle.std.specs.Prelude.{ℕ, zero, suc, ◌+◌, List, [], ◌∷◌, Bool, cond, ◌&&◌, length, leb, eqb}
+use Rattle.std.specs.Prelude.{ℕ, zero, suc, ◌+◌, List, [], ◌∷◌, Bool, cond, ◌&&◌, length, leb, eqb, Option, None, Some, Result, Ok, Err}
+use Rattle.records.specs.declared.refusal.Refusal.{Refusal}
+use Rattle.records.specs.declared.refusal.Refusal.TheVariants.{ShortPlan, BadShape, NoCopies, OverMemory, OverCores, AboveLimit}
+use Rattle.records.specs.Refusals.{and_then}
 use Rattle.records.specs.Costs.{read_costs}
 use Rattle.modules.specs.declared.Module.{Module}
 use Rattle.modules.specs.Model.{Chain, chain_of}
 use Rattle.modules.specs.Rules.{copies_allowed, memory_fits, within_limit}
 use Rattle.layout.specs.Layout.{most_modules, plan_bytes, module_at, modules_of}
-use Rattle.figures.specs.declared.Answer.{Answer}
+use Rattle.figures.specs.declared.PlanFigures.{PlanFigures}
 use Rattle.figures.specs.Model.{cores_of}
-use Rattle.figures.specs.Plan.{figures_of, refusal}
+use Rattle.figures.specs.Plan.{figures_of}
+use Rattle.judge.specs.declared.verdict.Rule.{Rule}
+use Rattle.judge.specs.declared.verdict.Rule.TheVariants.{Copies, Memory, Limit}
 
 -- ---- 12: the shape of the twelve records
 
@@ -49,12 +54,18 @@ memory_test c m = memory_fits c m.first m.last m.cores
 abbrev pub limit_test : Chain → Module → Bool
 limit_test c m = within_limit c m.first m.last m.cores
 
--- the test of a module that a refusal is due to, by its number: 13, 14, else 16
-unfoldable pub rule_test : Chain → ℕ → Module → Bool
-rule_test c number m = cond (eqb number 13) (copies_test c m) (cond (eqb number 14) (memory_test c m) (limit_test c m))
+-- the test of a module that each rule is
+abbrev pub rule_test : Chain → Rule → Module → Bool
+rule_test c Copies = copies_test c
+rule_test c Memory = memory_test c
+rule_test c Limit = limit_test c
+
+-- a place, none where it is 0
+abbrev pub at_place : ℕ → Option ℕ
+at_place n = cond (eqb n 0) None (Some n)
 
 -- the tests in their order, on a plan of the right shape: document 01's, and 16 after 14 and before 15 (M-100)
-unfoldable pub judged_plan : Chain → List Module → Answer
+unfoldable pub judged_plan : Chain → List Module → Result PlanFigures Refusal
 judged_plan c ms =
     let copies = first_failing (copies_test c) 1 ms in
     let memory = first_failing (memory_test c) 1 ms in
@@ -62,18 +73,16 @@ judged_plan c ms =
     cond (eqb copies 0)
     (cond (eqb memory 0)
     (cond (eqb limit 0)
-    (cond (leb (cores_of ms) c.board) (figures_of c ms) (refusal 15 0))
-    (refusal 16 limit))
-    (refusal 14 memory))
-    (refusal 13 copies)
+    (cond (leb (cores_of ms) c.board) (Ok (figures_of c ms)) (Err OverCores))
+    (Err (AboveLimit limit)))
+    (Err (OverMemory memory)))
+    (Err (NoCopies copies))
 
-unfoldable pub judged_bytes : Chain → List ℕ → Answer
+unfoldable pub judged_bytes : Chain → List ℕ → Result PlanFigures Refusal
 judged_bytes c w =
     let shape = shape_fault c.tasks w 1 0 most_modules in
-    cond (leb plan_bytes (length w)) (cond (eqb shape 0) (judged_plan c (modules_of w c.tasks)) (refusal 12 shape)) (refusal 7 0)
+    cond (leb plan_bytes (length w)) (cond (eqb shape 0) (judged_plan c (modules_of w c.tasks)) (Err (BadShape shape))) (Err ShortPlan)
 
 -- what Judge answers to costs and plan bytes
-unfoldable pub judged : List ℕ → List ℕ → Answer
-judged s w =
-    let r = read_costs s in
-    cond (eqb r.number 0) (judged_bytes (chain_of s r.board) w) (refusal r.number r.place)
+unfoldable pub judged : List ℕ → List ℕ → Result PlanFigures Refusal
+judged s w = and_then (λ b. judged_bytes (chain_of s b) w) (read_costs s)

@@ -28,7 +28,8 @@ pub enum Law {
     },
 }
 
-// A cost: a task's execution (kind 3), or the internal (4) or external (5) transfer from it to the next one, with its law.
+// A cost: a task's execution (kind 3), or the internal (4) or external (5) transfer from it to the next one, with its law. The kind is the
+// record's byte, whatever it is: `cost_at` answers for every record.
 #[derive(Clone, Copy)]
 pub struct Cost {
     pub kind: u8,

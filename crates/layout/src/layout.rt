@@ -9,7 +9,7 @@ use modules::Module;
 fn byte_at(plan: &[u8], i: usize) -> u8
     ensures { result ≡ get_or plan.now i 0 }
 {
-    if i < plan.len() { plan[i] } else { 0 }
+    plan.get(i).copied().unwrap_or(0)
 }
 
 // Record i, one of the twelve; zeros past the end of the bytes.
@@ -26,18 +26,14 @@ fn record_at(plan: &[u8], i: u32) -> Module
     }
 }
 
-// Record i of the twelve; zeros where there is no such record.
+// Record i of the twelve; zeros where there is no such record, as `record_of` has it.
 pub fn module_at(plan: &[u8], i: u32) -> Module
     ensures { result ≡ record_of plan.now i }
 {
     if i < MOST_MODULES {
-        return record_at(plan, i);
-    }
-    Module {
-        first: 0,
-        last: 0,
-        copies: 0,
-        cores: 0,
+        record_at(plan, i)
+    } else {
+        Module::default()
     }
 }
 
@@ -47,29 +43,25 @@ pub fn module_at(plan: &[u8], i: u32) -> Module
 pub fn module_count(plan: &[u8], k: u8) -> u32
     ensures { (result ≡ module_count plan.now k) × (result ≤ most_modules) }
 {
-    let mut i: u32 = 0;
-    while i < MOST_MODULES {
+    for i in 0..MOST_MODULES {
         let m = record_at(plan, i);
-        i += 1;
         if m.last == k {
-            return i;
+            return i + 1;
         }
     }
-    i
+    MOST_MODULES
 }
 
 // Writes the module m as record i, where the bytes have such a record.
 pub fn put_module(plan: &mut [u8], i: u32, m: Module)
     ensures { plan.new ≡ put_module plan.old i m }
 {
-    if i < MOST_MODULES {
-        if PLAN_BYTES <= plan.len() {
-            let at = 4 * (i as usize);
-            plan[at] = m.first;
-            plan[at + 1] = m.last;
-            plan[at + 2] = m.copies;
-            plan[at + 3] = m.cores;
-        }
+    if i < MOST_MODULES && PLAN_BYTES <= plan.len() {
+        let at = 4 * (i as usize);
+        plan[at] = m.first;
+        plan[at + 1] = m.last;
+        plan[at + 2] = m.copies;
+        plan[at + 3] = m.cores;
     }
 }
 
@@ -77,12 +69,7 @@ pub fn put_module(plan: &mut [u8], i: u32, m: Module)
 pub fn put_plan(from: [u8; PLAN_BYTES], plan: &mut [u8])
     ensures { plan.new ≡ put_plan from plan.old }
 {
-    if plan.len() < PLAN_BYTES {
-        return;
-    }
-    let mut i: usize = 0;
-    while i < PLAN_BYTES {
-        plan[i] = from[i];
-        i += 1;
+    if PLAN_BYTES <= plan.len() {
+        plan[..PLAN_BYTES].copy_from_slice(&from);
     }
 }

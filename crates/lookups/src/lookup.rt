@@ -10,20 +10,14 @@ use records::Board;
 fn is_within(i: u8, top: u8) -> bool
     ensures { result ≡ within i top }
 {
-    if i < 1 {
-        return false;
-    }
-    i <= top
+    1 <= i && i <= top
 }
 
 // Whether the task is one of the chain's and another follows it.
 fn has_next(task: u8, tasks: u8) -> bool
     ensures { result ≡ has_next task tasks }
 {
-    if task < 1 {
-        return false;
-    }
-    task < tasks
+    1 <= task && task < tasks
 }
 
 // The place of row i and column j, each counted from 1, among rows of that width.
@@ -49,27 +43,29 @@ fn pair_place(k: u8, p: u8, task: u8) -> u32
 pub fn pair(costs: &[u8], board: Board, task: u8) -> &[u8]
     ensures { result.now ≡ pair_of costs.now board task }
 {
-    if has_next(task, board.tasks) {
-        let cores = wide(board.cores) as usize;
-        let start = 8 * (pair_place(board.tasks, board.cores, task) as usize);
-        let end = start + 8 * (cores * cores);
-        if end <= costs.len() {
-            return &costs[start..end];
-        }
+    if !has_next(task, board.tasks) {
+        return &[];
     }
-    &costs[0..0]
+    let cores = wide(board.cores) as usize;
+    let start = 8 * (pair_place(board.tasks, board.cores, task) as usize);
+    let end = start + 8 * (cores * cores);
+    // Not `get`, which would test the order of start and end too, in every lookup of a transfer.
+    if end <= costs.len() {
+        &costs[start..end]
+    } else {
+        &[]
+    }
 }
 
 // The external transfer at s sending and q receiving cores, in ticks, looked up in a pair's part.
 pub fn external(part: &[u8], cores: u8, s: u8, q: u8) -> u32
     ensures { result ≡ external_of part.now cores s q }
 {
-    if is_within(s, cores) {
-        if is_within(q, cores) {
-            return value_at(part, cell(s, q, cores));
-        }
+    if is_within(s, cores) && is_within(q, cores) {
+        value_at(part, cell(s, q, cores))
+    } else {
+        0
     }
-    0
 }
 
 // What handing out to copies costs, D of 0 to 255 (document 02, M-106).
@@ -94,15 +90,10 @@ pub fn need_at(costs: &[u8], k: u8, task: u8) -> u32
 pub fn replicable_at(costs: &[u8], k: u8, task: u8) -> bool
     ensures { result ≡ replicable_of costs.now (board_with k 0) task }
 {
-    if is_within(task, k) {
-        let flag = byte_at(costs, wide(task), 2);
-        flag == 1
-    } else {
-        false
-    }
+    is_within(task, k) && byte_at(costs, wide(task), 2) == 1
 }
 
-// The most cores that one copy with a task of a chain of k may have, 0 for no limit (document 02, M-100).
+// The most cores that one copy with a task of a chain of k may have, 0 for no limit (document 02, M-100): the byte of its record.
 pub fn limit_at(costs: &[u8], k: u8, task: u8) -> u32
     ensures { result ≡ limit_of costs.now (board_with k 0) task }
 {
@@ -117,27 +108,25 @@ pub fn limit_at(costs: &[u8], k: u8, task: u8) -> u32
 pub fn execution_at(costs: &[u8], k: u8, cores: u8, task: u8, p: u8) -> u32
     ensures { result ≡ execution_of costs.now (board_with k cores) task p }
 {
-    if is_within(task, k) {
-        if is_within(p, cores) {
-            let start = 1 + wide(k);
-            return value_at(costs, start + cell(task, p, cores));
-        }
+    if is_within(task, k) && is_within(p, cores) {
+        let start = 1 + wide(k);
+        value_at(costs, start + cell(task, p, cores))
+    } else {
+        0
     }
-    0
 }
 
 // The internal transfer from a task of a chain of k to the next at p cores of a board of that many.
 pub fn internal_at(costs: &[u8], k: u8, cores: u8, task: u8, p: u8) -> u32
     ensures { result ≡ internal_of costs.now (board_with k cores) task p }
 {
-    if has_next(task, k) {
-        if is_within(p, cores) {
-            let tasks = wide(k);
-            let first = 1 + tasks + tasks * wide(cores);
-            return value_at(costs, first + cell(task, p, cores));
-        }
+    if has_next(task, k) && is_within(p, cores) {
+        let tasks = wide(k);
+        let first = 1 + tasks + tasks * wide(cores);
+        value_at(costs, first + cell(task, p, cores))
+    } else {
+        0
     }
-    0
 }
 
 // The external transfer from a task of a chain of k to the next, looked up in the pair's part.

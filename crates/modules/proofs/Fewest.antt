@@ -9,23 +9,30 @@ use Rattle.records.proofs.Cases.{lt_or_le, true_or_false, true_not_false}
 use Rattle.modules.specs.Model.{Chain}
 use Rattle.modules.specs.Rules.{memory_fits, fewest_from, fewest_cores}
 use Rattle.modules.specs.Claims.{IsFewest}
-use Rattle.modules.proofs.Left.{left_some, left_none}
 
 -- ---- one turn
 
-module _ (c : Chain) (first last p top : ℕ) where
-  pub fewest_here : {t : Bool} → p < top → t ≡ memory_fits c first last (p + 1) → t ≡ true → fewest_from c first last p (top - p) ≡ p + 1
+-- with all counts below q tried
+module _ (c : Chain) (first last q top : ℕ) where
+  pub fewest_here : {t : Bool} → 1 ≤ q → q ≤ top → t ≡ memory_fits c first last q → t ≡ true → fewest_from c first last (q - 1) (top + 1 - q) ≡ q
   unfolding fewest_from
-  fewest_here h e y = rw (left_some h, ← e, y)
+  fewest_here some h e y =
+      let d : top + 1 - q ≡ suc (top - q) = omega arith in
+      let n : q - 1 + 1 ≡ q = omega arith in
+      rw (d, n, ← e, y)
 
-  pub fewest_next : {t : Bool} → p < top → t ≡ memory_fits c first last (p + 1) → t ≡ false
-      → fewest_from c first last p (top - p) ≡ fewest_from c first last (p + 1) (top - (p + 1))
+  pub fewest_next : {t : Bool} → 1 ≤ q → q ≤ top → t ≡ memory_fits c first last q → t ≡ false
+      → fewest_from c first last (q - 1) (top + 1 - q) ≡ fewest_from c first last (q + 1 - 1) (top + 1 - (q + 1))
   unfolding fewest_from
-  fewest_next h e n = rw (left_some h, ← e, n)
+  fewest_next some h e f =
+      let d : top + 1 - q ≡ suc (top + 1 - (q + 1)) = omega arith in
+      let n : q - 1 + 1 ≡ q = omega arith in
+      let m : q + 1 - 1 ≡ q = omega arith in
+      rw (d, n, m, ← e, f)
 
-  pub fewest_end : top ≤ p → fewest_from c first last p (top - p) ≡ p + 1
+  pub fewest_end : q ≡ top + 1 → fewest_from c first last (q - 1) (top + 1 - q) ≡ q
   unfolding fewest_from
-  fewest_end h = rw (left_none h)
+  fewest_end e = let d : top + 1 - q ≡ 0 = omega arith in rw d (omega arith)
 
 -- ---- what is found
 

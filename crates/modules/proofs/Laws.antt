@@ -6,7 +6,9 @@ use mathlib.Core.List.{List}
 use mathlib.Core.Logic.{◌↔◌}
 use Prim.Native.Nat.{ℕ, ◌+◌, ◌-◌, ◌*◌, ◌≤◌, ◌<◌}
 use Rattle.records.specs.declared.Board.{Board}
-use Rattle.records.specs.declared.Filled.{Filled}
+use Rattle.records.specs.declared.refusal.Refusal.{Refusal}
+use Rattle.records.specs.Filled.{count_in}
+use Rattle.std.specs.Prelude.{Result}
 use Rattle.records.specs.Format.{IsCosts}
 use Rattle.modules.specs.Model.{Chain, chain_of, body, transfer, handed, response, passage}
 use Rattle.modules.specs.Rules.{share, shares, memory_fits, copies_allowed, module_limit, within_limit, module_rules, still_kept, fewest_cores}
@@ -191,10 +193,10 @@ module _ (c : Chain) (first : ℕ) where
     rules_reach = longest.rules_reach c first last some later inside
 
 -- the service answers the reach exactly on accepted costs, and else refuses as reading does
-pub reach_answers : (s : List ℕ) (first : ℕ) (a : Filled) → (reach_answer s first ≡ a) ↔ Reaches s first a
+pub reach_answers : (s : List ℕ) (first : ℕ) (a : Result ℕ Refusal) → (reach_answer s first ≡ a) ↔ Reaches s first a
 reach_answers = longest.reach_answers
 
 -- and the count that it answers says of each module of the chain whether it needs at most P cores
 pub reach_counts : (s : List ℕ) (b : Board) → IsCosts s b → (first last : ℕ) → 1 ≤ first → first ≤ last → last ≤ b.tasks
-    → (fewest_cores (chain_of s b) first last ≤ b.cores) ↔ (last ≤ (reach_answer s first).count)
+    → (fewest_cores (chain_of s b) first last ≤ b.cores) ↔ (last ≤ count_in (reach_answer s first))
 reach_counts = longest.reach_counts

@@ -162,7 +162,3 @@ module _ (c : Chain) (last p : ℕ) where
   -- and only if that task does; that it was without it is `limit_drop`
   pub within_task : (first : ℕ) → first ≤ last → within_limit c first last p ≡ true → allows (c.limit last) p ≡ true
   within_task first h e = most_allows (c.limit last) p ((within_each c first last p).0 e last h (omega arith))
-
-  pub within_last : {t : ℕ} → t ≡ last → within_limit c t last p ≡ allows (c.limit last) p
-  unfolding within_limit module_limit limit_from
-  within_last {t} e = let z : last - last ≡ 0 = omega arith in rw e (simp (le-ltb last last (omega arith), z))

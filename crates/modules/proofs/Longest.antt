@@ -1,22 +1,23 @@
 -- A task's reach (document 02, M-102): the longest module that needs at most P cores is found; and since a longer module needs no fewer
 -- cores, all shorter ones need at most P too, and the search may go up to the first that needs more. Assumes nothing.
-use mathlib.Core.Path.{◌≡◌, refl, ap, sym, ◌∙◌}
+use mathlib.Core.Path.{◌≡◌, ap, sym, ◌∙◌}
 use mathlib.Core.Bool.{true, false, ◌&&◌}
 use mathlib.Core.List.{List}
 use mathlib.Core.Logic.{◌↔◌, ⊎_elim}
 use Prim.Native.Nat.{ℕ, zero, suc, ◌+◌, ◌-◌, ◌≤◌, ◌<◌}
 use native.Mathlib.Nat.{le_refl}
 use native.Mathlib.Omega.{arith}
-use lib.Dec.{leb, eqb}
-use borrow.Author.Tests.{eq-eqb, ne_eqb, le-leb, lt-leb, eqb-true, eqb-false, leb-true, leb-false}
+use lib.Dec.{leb}
+use borrow.Author.Tests.{eq-eqb, ne_eqb, le-leb, lt-leb, leb-true, leb-false}
 use Rattle.records.specs.declared.Board.{Board}
-use Rattle.records.specs.declared.Reading.{Reading}
-use Rattle.records.specs.declared.Filled.{Filled}
+use Rattle.std.specs.Prelude.{Result, Ok, Err}
+use Rattle.records.specs.declared.refusal.Refusal.{Refusal}
+use Rattle.records.proofs.Refusing.{refused_or_not}
 use Rattle.records.specs.Costs.{read_costs}
-use Rattle.records.specs.Filled.{filled_in, unfilled}
+use Rattle.records.specs.Filled.{count_in}
 use Rattle.records.specs.Format.{IsCosts}
 use Rattle.records.proofs.Cases.{lt_or_le, true_or_false, and-true}
-use Rattle.records.proofs.Laws.{read_exactly, read_accepts, accepted_costs}
+use Rattle.records.proofs.Laws.{read_exactly, read_accepts}
 use Rattle.modules.specs.Model.{Chain, chain_of}
 use Rattle.modules.specs.Rules.{memory_fits, copies_allowed, within_limit, module_rules, fewest_cores}
 use Rattle.modules.specs.Reach.{reach_of, reach, reach_answer}
@@ -203,33 +204,33 @@ module _ (c : Chain) (first : ℕ) where
 
 module _ (s : List ℕ) (first : ℕ) where
   -- as the code finds it
-  module _ {r : Reading} (read : r ≡ read_costs s) where
-    pub reach_refused : (r.number ≡ 0 → ⊥) → unfilled r.number r.place ≡ reach_answer s first
+  module _ {r : Result Board Refusal} (read : r ≡ read_costs s) where
+    pub reach_refused : {e : Refusal} → r ≡ Err e → Err e ≡ reach_answer s first
     unfolding reach_answer
-    reach_refused n = simp (← read, ne_eqb r.number 0 n)
+    reach_refused z = simp (sym read ∙ z)
 
-    pub reach_given : {x : ℕ} → r.number ≡ 0 → x ≡ reach (chain_of s r.board) first → filled_in x ≡ reach_answer s first
+    pub reach_given : {b : Board} {x : ℕ} → r ≡ Ok b → x ≡ reach (chain_of s b) first → Ok x ≡ reach_answer s first
     unfolding reach_answer
-    reach_given z e = simp (← read, eq-eqb r.number 0 z, e)
+    reach_given z e = simp (sym read ∙ z, e)
 
   answered : Reaches s first (reach_answer s first)
   unfolding reach_answer
   answered = ⊎_elim
-      (λ (t : eqb (read_costs s).number 0 ≡ true). rw t (reached (read_costs s).board (accepted_costs s (eqb-true _ _ t))))
-      (λ (t : eqb (read_costs s).number 0 ≡ false). rw t (costs_wrong (read_costs s) ((read_exactly s (read_costs s)).0 refl) (eqb-false _ _ t)))
-      (true_or_false (eqb (read_costs s).number 0))
+      (λ (t : (b : Board) × (read_costs s ≡ Ok b)). rw t.1 (reached t.0 ((read_accepts s t.0).0 t.1)))
+      (λ (t : (e : Refusal) × (read_costs s ≡ Err e)). rw t.1 (costs_wrong t.0 ((read_exactly s (Err t.0)).0 t.1)))
+      (refused_or_not (read_costs s))
 
-  answered_only : (a : Filled) → Reaches s first a → reach_answer s first ≡ a
+  answered_only : (a : Result ℕ Refusal) → Reaches s first a → reach_answer s first ≡ a
   unfolding reach_answer
   answered_only a (reached b i) = rw ((read_accepts s b).1 i)
-  answered_only a (costs_wrong r f n) = rw ((read_exactly s r).1 f) (simp (ne_eqb r.number 0 n))
+  answered_only a (costs_wrong e f) = rw ((read_exactly s (Err e)).1 f)
 
-  pub reach_answers : (a : Filled) → (reach_answer s first ≡ a) ↔ Reaches s first a
+  pub reach_answers : (a : Result ℕ Refusal) → (reach_answer s first ≡ a) ↔ Reaches s first a
   reach_answers a = (λ e. rw e at answered, answered_only a)
 
 -- the count that is answered says of each module of the chain whether it needs at most P cores
 pub reach_counts : (s : List ℕ) (b : Board) → IsCosts s b → (first last : ℕ) → 1 ≤ first → first ≤ last → last ≤ b.tasks
-    → (fewest_cores (chain_of s b) first last ≤ b.cores) ↔ (last ≤ (reach_answer s first).count)
+    → (fewest_cores (chain_of s b) first last ≤ b.cores) ↔ (last ≤ count_in (reach_answer s first))
 reach_counts s b i first last some later inside =
-    let e : reach_answer s first ≡ filled_in (reach (chain_of s b) first) = (reach_answers s first (filled_in (reach (chain_of s b) first))).1 (reached b i) in
+    let e : reach_answer s first ≡ Ok (reach (chain_of s b) first) = (reach_answers s first (Ok (reach (chain_of s b) first))).1 (reached b i) in
     rw e (reach_exactly (chain_of s b) first last some later inside)

@@ -68,8 +68,17 @@ module _ (f g f' g' : ℕ → ℕ) where
       ))
       (lt_or_le last first)
 
--- and one task more at the end
+-- and one task more at the end, or fewer at the start
 module _ (f : ℕ → ℕ) where
+  pub gather_first : (t last : ℕ) → t ≤ last → gather f nothing t last ≡ f t + gather f nothing (t + 1) last
+  gather_first t last h = ⊎_elim
+      (λ l. omega (arith, gather_some f nothing t last h, run_step f nothing t last l, gather_some f nothing (t + 1) last (omega arith)))
+      (λ l.
+      let e : t ≡ last = omega arith in
+      let g : f t ≡ f last = ap f e in
+      omega (arith, gather_some f nothing t last h, run_end f nothing t last e, g, gather_none f nothing (t + 1) last (omega arith)))
+      (lt_or_le t last)
+
   run_last : (n t : ℕ) → run f nothing t (suc n) ≡ run f nothing t n + f (t + suc n)
   unfolding run
   run_last zero t = omega arith

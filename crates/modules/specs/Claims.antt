@@ -1,12 +1,10 @@
 -- The documents' words on a module as direct statements, beside the definitions that run: what "the fewest cores that its memory
 -- allows" are (document 01, Bench way), a module's limit (document 02, M-100), a task's reach (M-102) and how many of its tasks need memory
 -- (M-103). Assumes nothing.
-use Rattle.std.specs.Prelude.{◌≡◌, true, false, cond, List, eqb, ℕ, ◌≤◌, ◌<◌}
+use Rattle.std.specs.Prelude.{◌≡◌, true, false, cond, List, eqb, ℕ, ◌≤◌, ◌<◌, Result, Ok, Err}
 use Rattle.records.specs.declared.Board.{Board}
-use Rattle.records.specs.declared.Reading.{Reading}
-use Rattle.records.specs.declared.Filled.{Filled}
+use Rattle.records.specs.declared.refusal.Refusal.{Refusal}
 use Rattle.records.specs.Format.{IsCosts, Finds}
-use Rattle.records.specs.Filled.{filled_in, unfilled}
 use Rattle.modules.specs.Model.{Chain, chain_of, gather, nothing}
 use Rattle.modules.specs.Rules.{memory_fits, fewest_cores}
 use Rattle.modules.specs.Reach.{reach}
@@ -48,9 +46,9 @@ pub record SomeHold (c : Chain) (first last : ℕ) : Type 0 where
   pub fits : memory_fits c first last cores ≡ true
 
 -- what the service is to answer
-pub data Reaches (s : List ℕ) (first : ℕ) : Filled → Type 0 where
-  reached : (b : Board) → IsCosts s b → Reaches s first (filled_in (reach (chain_of s b) first))
-  costs_wrong : (r : Reading) → Finds s r → (r.number ≡ 0 → ⊥) → Reaches s first (unfilled r.number r.place)
+pub data Reaches (s : List ℕ) (first : ℕ) : Result ℕ Refusal → Type 0 where
+  reached : (b : Board) → IsCosts s b → Reaches s first (Ok (reach (chain_of s b) first))
+  costs_wrong : (e : Refusal) → Finds s (Err e) → Reaches s first (Err e)
 
 -- ---- M-103: modules that fit at no count of cores
 

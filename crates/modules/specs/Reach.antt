@@ -1,9 +1,9 @@
 -- How far a module can go (document 02, M-102): a task's reach, by memory alone, through the fewest cores that a module's memory
 -- allows. Assumes nothing.
-use Rattle.std.specs.Prelude.{ℕ, zero, suc, ◌+◌, ◌-◌, cond, List, leb, eqb}
-use Rattle.records.specs.declared.Filled.{Filled}
+use Rattle.std.specs.Prelude.{ℕ, zero, suc, ◌+◌, ◌-◌, cond, List, leb, eqb, Result, Ok}
+use Rattle.records.specs.declared.refusal.Refusal.{Refusal}
+use Rattle.records.specs.Refusals.{and_then}
 use Rattle.records.specs.Costs.{read_costs}
-use Rattle.records.specs.Filled.{filled_in, unfilled}
 use Rattle.modules.specs.Model.{Chain, chain_of}
 use Rattle.modules.specs.Rules.{fewest_cores}
 
@@ -20,7 +20,5 @@ unfoldable pub reach : Chain → (first : ℕ) → ℕ
 reach c first = cond (eqb first 0) 0 (reach_of c first (c.tasks + 1 - first))
 
 -- the service: the reach of a task by a cost file, or refusals 1 to 6
-unfoldable pub reach_answer : List ℕ → (first : ℕ) → Filled
-reach_answer s first =
-    let r = read_costs s in
-    cond (eqb r.number 0) (filled_in (reach (chain_of s r.board) first)) (unfilled r.number r.place)
+unfoldable pub reach_answer : List ℕ → (first : ℕ) → Result ℕ Refusal
+reach_answer s first = and_then (λ b. Ok (reach (chain_of s b) first)) (read_costs s)

@@ -1,6 +1,6 @@
 // Sums over a module's tasks, from first to last, 0 where last is below first, and what is made of them. Whatever the bytes are, 255
 // tasks of 32-bit values cannot overflow 64 bits.
-ghost use Rattle.std.specs.Prelude.{◌≡◌, ◌<◌};
+ghost use Rattle.std.specs.Prelude.{◌≡◌, ℕ, ◌<◌};
 ghost use Rattle.modules.specs.Model.{chain_of, gather, nothing, body as body_of, transfer as transfer_of, handed as handed_to, response as response_to, passage as passage_of};
 ghost use Rattle.modules.specs.Rules.{mark, share as share_of, shares as shares_of};
 
@@ -16,13 +16,24 @@ pub fn body(costs: &[u8], board: Board, first: u8, last: u8, p: u8) -> u64
         return 0;
     }
     let mut sum: u64 = 0;
-    let mut t = first;
-    while t < last {
+    // A transfer stands between two tasks, and none behind the last: that one is added after the loop.
+    for t in first..last {
         sum += held::execution(costs, board, t, p) as u64;
         sum += held::internal(costs, board, t, p) as u64;
-        t += 1;
     }
     sum + (held::execution(costs, board, last, p) as u64)
+}
+
+// The values of a module's tasks, each of at most 32 bits, added up.
+fn added_up<F: Fn(u8) -> u64>(value: F, first: u8, last: u8) -> u64
+    requires { (t : ℕ) → t < 256 → F.pre value t × ((x : ℕ) → F.post value t x → x < 4294967296) }
+    ensures { (f : ℕ → ℕ) → ((t x : ℕ) → t < 256 → F.post value t x → x ≡ f t) → result ≡ gather f nothing first last }
+{
+    let mut sum: u64 = 0;
+    for t in first..=last {
+        sum += value(t);
+    }
+    sum
 }
 
 // A task's share of the memory of each of p cores (document 02, M-103), in KiB; 0 on no cores.
@@ -37,16 +48,7 @@ pub fn share(costs: &[u8], board: Board, t: u8, p: u8) -> u64
 pub(crate) fn shares(costs: &[u8], board: Board, first: u8, last: u8, p: u8) -> u64
     ensures { result ≡ shares_of (chain_of costs.now board) first last p }
 {
-    if last < first {
-        return 0;
-    }
-    let mut sum: u64 = 0;
-    let mut t = first;
-    while t < last {
-        sum += share(costs, board, t, p);
-        t += 1;
-    }
-    sum + share(costs, board, last, p)
+    added_up(|t| share(costs, board, t, p), first, last)
 }
 
 // 1 for a task that is not replicable, else 0.
@@ -64,16 +66,7 @@ fn mark_of(costs: &[u8], board: Board, t: u8) -> u64
 pub(crate) fn marks(costs: &[u8], board: Board, first: u8, last: u8) -> u64
     ensures { result ≡ gather (mark (chain_of costs.now board)) nothing first last }
 {
-    if last < first {
-        return 0;
-    }
-    let mut sum: u64 = 0;
-    let mut t = first;
-    while t < last {
-        sum += mark_of(costs, board, t);
-        t += 1;
-    }
-    sum + mark_of(costs, board, last)
+    added_up(|t| mark_of(costs, board, t), first, last)
 }
 
 // The external transfer from task t to the next at s sending and q receiving cores; 0 where one of them is 0.
@@ -108,10 +101,7 @@ pub fn passage(costs: &[u8], board: Board, m: Module, q: u8) -> u64
 pub fn response_of(costs: &[u8], board: Board, s: u8, m: Module, q: u8) -> u64
     ensures { (result ≡ response_to (chain_of costs.now board) s m.first m.last m.copies m.cores q) × (result < 8796093022208) }
 {
-    let mut before: u8 = 0;
-    if 0 < m.first {
-        before = m.first - 1;
-    }
+    let before = m.first.saturating_sub(1);
     let received = transfer(costs, board, before, s, m.cores) as u64;
     received + passage(costs, board, m, q)
 }

@@ -14,7 +14,7 @@ pub use reaching::read_reach;
 pub use rules::{copies_allowed, fewest_cores, memory_fits, rules_met, still_kept, within_limit};
 
 // A module of a plan: an unbroken run of tasks, first to last, in r copies of p cores each.
-#[derive(Clone, Copy)]
+#[derive(Clone, Copy, PartialEq, Eq, Default)]
 pub struct Module {
     pub first: u8,
     pub last: u8,

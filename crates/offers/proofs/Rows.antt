@@ -1,6 +1,6 @@
 -- The row of cheapest transfers as the loop over the next module's cores keeps it, where the words hold the slacks of the rests. By the laws
 -- of the row of words, and because the slack rises with the cores.
-use Prim.Native.Nat.{ℕ, suc, ◌+◌, ◌*◌, ◌≤◌, ◌<◌}
+use Prim.Native.Nat.{ℕ, suc, ◌+◌, ◌*◌, ◌≤◌, ◌<◌, min, max}
 use native.Mathlib.Omega.{arith}
 use mathlib.Core.Path.{◌≡◌, refl, sym, ap, ◌∙◌}
 use mathlib.Core.Bool.{true, false}
@@ -12,12 +12,10 @@ use borrow.Author.Tests.{eq-eqb, ne_eqb, le-ltb}
 use lib.Seq.{get_or-set_same, get_or-set_other}
 use Rattle.records.proofs.Cases.{lt_or_le, true_or_false}
 use Rattle.modules.specs.Model.{Chain, transfer}
-use Rattle.search.specs.Least.{pick, lesser, least}
-use Rattle.search.proofs.Least.{least_ext, least_none}
-use Rattle.slack.specs.Greatest.{larger}
+use Rattle.search.specs.Least.{pick, least}
+use Rattle.search.proofs.Least.{lesser_min, least_ext, least_none}
 use Rattle.slack.specs.Fill.{lowest, chance, cheapest}
 use Rattle.slack.specs.Problem.{none, split_on, slack_on, cheapest_on}
-use Rattle.slack.proofs.Greatest.{larger_ge, larger_below}
 use Rattle.slack.proofs.Slack.{slack_rises, slack_zero, slack_narrow}
 use Rattle.slack.proofs.Cheapest.{row_start, row_same, row_next, row_end, cheapest_last}
 use Rattle.offers.specs.Words.{RowFilled, Cheapest, unsent, FirstServed, NoRest, LeastRest}
@@ -90,8 +88,8 @@ module _ (c : Chain) (w : List ℕ) (l q end : ℕ) where
         row_start c.tasks none (transfer c) (slack_on c n) l q before (λ j. get_or row j 0) b (λ j d. h j (omega arith)) (omega (arith, slack_zero (split_on c n) l b))
 
     -- the next module of i cores is entered at r, which is the first from i or the fewest cores of a rest on
-    pub entered_more : (row : List ℕ) (i e r v least from : ℕ) → 1 ≤ i → e ≡ transfer c l q i → NoRest w l least → from ≡ larger i least
-        → FirstServed w (l * 1089 + i * 33) from end e r → r < length row → v ≡ lesser (get_or row r 0) e → Entered row i → Entered (set row r v) (i + 1)
+    pub entered_more : (row : List ℕ) (i e r v least from : ℕ) → 1 ≤ i → e ≡ transfer c l q i → NoRest w l least → from ≡ max i least
+        → FirstServed w (l * 1089 + i * 33) from end e r → r < length row → v ≡ min (get_or row r 0) e → Entered row i → Entered (set row r v) (i + 1)
     entered_more row i e r v least from some is rest start first long ev h n filled b low = ⊎_elim
         (λ (d : end < r).
         row_same c.tasks none (transfer c) (slack_on c n) l q before (λ j. get_or (set row r v) j 0) i e end is
@@ -101,9 +99,9 @@ module _ (c : Chain) (w : List ℕ) (l q end : ℕ) where
         (λ (d : r ≤ end).
         row_next c.tasks none (transfer c) (slack_on c n) l q before (λ q' a a' u. slack_rises (split_on c n) l q' a a' u)
         (λ j. get_or row j 0) (λ j. get_or (set row r v) j 0) i e r end is
-        (omega (arith, first.serves d, filled i r some (omega (arith, first.low, start, (larger_ge i least).0)) (omega arith)))
+        (omega (arith, first.serves d, filled i r some (omega (arith, first.low, start)) (omega arith)))
         (λ a u. unserved a (omega arith) u)
-        (get_or-set_same row r v 0 long ∙ ev)
+        (get_or-set_same row r v 0 long ∙ ev ∙ lesser_min _ _)
         (λ j u x. get_or-set_other row r j v 0 x)
         (h n filled) b low)
         (lt_or_le end r)
@@ -112,10 +110,7 @@ module _ (c : Chain) (w : List ℕ) (l q end : ℕ) where
         unserved a u x = ⊎_elim
             (λ y. omega (arith, slack_narrow (split_on c n) l i a y))
             (λ y. ⊎_elim
-            (λ z. ⊎_elim
-            (λ u. absurd (omega arith))
-            (λ u. omega (arith, rest i a some y u, filled i a some y (omega arith)))
-            (larger_below i least a (omega (arith, start, z))))
+            (λ (z : a < from). omega (arith, rest i a some y (omega (arith, start, z)), filled i a some y (omega arith)))
             (λ z. omega (arith, first.none_before a z x, filled i a some y (omega arith)))
             (lt_or_le a from))
             (lt_or_le a i)

@@ -2,8 +2,6 @@
 // any copies. A row has an entry for each number of cores.
 ghost use Rattle.std.specs.Prelude.{◌≡◌, ◌+◌, ◌-◌, ◌≤◌, ◌<◌, length, replicate};
 ghost use Rattle.modules.specs.Model.{chain_of};
-ghost use Rattle.search.specs.Least.{lesser as lesser_of};
-ghost use Rattle.slack.specs.Greatest.{larger as larger_of};
 ghost use Rattle.slack.specs.Fill.{best_by};
 ghost use Rattle.slack.specs.Problem.{none, top_threshold};
 ghost use Rattle.offers.specs.Words.{time_at, row_of, unsent, Area, FirstServed, NoRest, FirstSent, NoneBelow, Settled, CheapestBy, LeftByOne, Offered};
@@ -14,47 +12,25 @@ use guess::GRAIN;
 use records::Board;
 use sketch::{SIDE, SQUARE};
 
-// The lesser of two numbers.
-pub fn lesser(a: u32, b: u32) -> u32
-    ensures { result ≡ lesser_of a b }
-{
-    if a <= b { a } else { b }
-}
-
-// The larger of two numbers.
-pub fn larger(a: u32, b: u32) -> u32
-    ensures { result ≡ larger_of a b }
-{
-    if a <= b { b } else { a }
-}
-
 // The first number of cores from `from` to `end` at which a rest, whose slacks stand after `at`, can still receive in the time e; one more
-// than `end` where none can.
+// than `end` where none can: a place of the row too, where what counts for nothing is written without a branch.
 fn first_served(work: &[u32], at: usize, from: usize, end: usize, e: u32) -> usize
     requires { (at + end < length work.now) × (from ≤ end + 1) }
     ensures { FirstServed work.now at from end e result }
 {
-    let mut c = from;
-    while c <= end {
+    for c in from..=end {
         if e < work[at + c] {
             return c;
         }
-        c += 1;
     }
-    c
+    end + 1
 }
 
 // The same of any row and numbers: `from` where the row ends before, or nothing is asked.
 pub fn first_above(row: &[u32], at: usize, from: usize, end: usize, e: u32) -> usize
     ensures { AboveFrom row.now at from end e result }
 {
-    if row.len() <= end {
-        return from;
-    }
-    if row.len() - end <= at {
-        return from;
-    }
-    if end < from {
+    if row.len() <= end || row.len() - end <= at || end < from {
         return from;
     }
     first_served(row, at, from, end, e)
@@ -65,27 +41,18 @@ pub fn first_above(row: &[u32], at: usize, from: usize, end: usize, e: u32) -> u
 pub fn least_rest(work: &[u32], board: Board, l: u8) -> usize
     ensures { RestBy board work.now l result }
 {
-    if !has_room(board, work.len()) {
-        return 0;
-    }
-    if board.tasks <= l {
+    if !has_room(board, work.len()) || board.tasks <= l {
         return 0;
     }
     let base = (l as usize) * SQUARE;
     let mut least = (board.cores as usize) + 1;
     let mut q: usize = 1;
+    // Each turn may move the end, which the range of a `for` does not.
     while q < least {
         least = first_served(work, base + q * SIDE, q, least - 1, 0);
         q += 1;
     }
     least
-}
-
-// The later of two numbers of cores.
-fn later(a: usize, b: usize) -> usize
-    ensures { result ≡ larger_of a b }
-{
-    if a <= b { b } else { a }
 }
 
 // Each entry becomes the least of those up to it; those before `from` are no transfers.
@@ -94,12 +61,9 @@ fn settle(row: &mut [u32], from: usize, end: usize)
     ensures { NoneBelow row.old from → Settled row.old row.new end }
 {
     let mut m = NONE;
-    let mut c = from;
-    while c <= end {
-        let own = row[c];
-        m = lesser(m, own);
+    for c in from..=end {
+        m = m.min(row[c]);
         row[c] = m;
-        c += 1;
     }
 }
 
@@ -131,29 +95,16 @@ pub(crate) fn cheapest(
     }
     let end = (board.cores - q) as usize;
     let base = (l as usize) * SQUARE;
-    let mut i: u8 = 1;
-    while (i as usize) <= end {
-        let led = i as usize;
+    for led in 1..=end {
         let at = base + led * SIDE;
         if work[at + end] == 0 {
-            i += 1;
             continue;
         }
-        let e = modules::transfer(costs, board, l, q, i);
-        let from = later(led, least);
-        let c = first_served(work, at, from, end, e);
-        let own = row[c];
-        row[c] = lesser(own, e);
-        i += 1;
+        let e = modules::transfer(costs, board, l, q, led as u8);
+        let c = first_served(work, at, led.max(least), end, e);
+        row[c] = row[c].min(e);
     }
     settle(row, least, end);
-}
-
-// A word as a time, which may be added to others.
-pub fn wide(x: u32) -> u64
-    ensures { (result ≡ x) × (result < 4294967296) }
-{
-    x as u64
 }
 
 // One more than what is left of a time, 0 where too much is taken.
@@ -161,11 +112,7 @@ fn beyond(time: u64, taken: u64) -> u32
     requires { time < none }
     ensures { result ≡ time + 1 - taken }
 {
-    if taken <= time {
-        let rest = time - taken + 1;
-        return rest as u32;
-    }
-    0
+    (time + 1).saturating_sub(taken) as u32
 }
 
 // What one copy of q cores leaves in b cores, at the threshold n, beside the cheapest transfer.
@@ -173,8 +120,7 @@ fn one_at(n: u64, row: &[u32], q: usize, b: usize) -> u32
     requires { (n ≤ top_threshold) × (q ≤ b) × (b ≤ 32) × (33 ≤ length row.now) }
     ensures { LeftByOne n row.now q b result }
 {
-    let sent = wide(row[b - q]);
-    beyond(n / GRAIN, sent)
+    beyond(n / GRAIN, u64::from(row[b - q]))
 }
 
 // The fewest cores of a rest that something can be sent to, by the first entry that is a transfer, which is none before `from`; one more
@@ -183,14 +129,12 @@ pub(crate) fn first_sent(row: &[u32], from: usize, end: usize) -> usize
     requires { (end < length row.now) × (from ≤ end + 1) }
     ensures { (result ≤ end + 1) × (NoneBelow row.now from → FirstSent row.now end result) }
 {
-    let mut low = from;
-    while low <= end {
+    for low in from..=end {
         if row[low] != NONE {
             return low;
         }
-        low += 1;
     }
-    low
+    end + 1
 }
 
 // What any copies leave beside `one`, what one does; several take `extra` more each (document 02, M-106). Copies after which fewer than
@@ -203,10 +147,10 @@ fn any_at(n: u64, extra: u32, row: &[u32], q: usize, low: usize, b: usize, one: 
     let mut m = one;
     let mut r: u64 = 2;
     let mut used = q + q;
+    // By the cores used: the copies, counted beside them, would need a division here for their end.
     while used <= most {
-        let sent = wide(row[b - used]);
-        let v = beyond(n * r / GRAIN, sent + (extra as u64));
-        m = larger(m, v);
+        let v = beyond(n * r / GRAIN, u64::from(row[b - used]) + u64::from(extra));
+        m = m.max(v);
         r += 1;
         used += q;
     }
@@ -227,12 +171,9 @@ pub(crate) fn offer(
     requires { (n ≤ top_threshold) × (1 ≤ q) × (q + low ≤ cores + 1) × (cores ≤ 32) × (33 ≤ length row.now) × (length left.old ≡ 66) }
     ensures { NoneBelow row.now low → left.old ≡ replicate 66 0 → Offered n extra row.now q cores left.new }
 {
-    let mut b = q + low;
-    while b <= cores {
-        let x = one_at(n, row, q, b);
-        let y = any_at(n, extra, row, q, low, b, x);
-        left[b] = x;
-        left[SIDE + b] = y;
-        b += 1;
+    for b in q + low..=cores {
+        let one = one_at(n, row, q, b);
+        left[b] = one;
+        left[SIDE + b] = any_at(n, extra, row, q, low, b, one);
     }
 }

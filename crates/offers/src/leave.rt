@@ -17,28 +17,12 @@ pub const PLACES: usize = 66;
 fn askable(board: Board, words: usize, n: u64, l: u8, q: u8, least: usize, places: usize) -> bool
     ensures { (result ≡ true → Askable board words n l q least places) × (result ≡ false → Askable board words n l q least places → ⊥) }
 {
-    if places != PLACES {
-        return false;
-    }
-    if q < 1 {
-        return false;
-    }
-    if board.cores < q {
-        return false;
-    }
-    if ((board.cores - q) as usize) < least {
-        return false;
-    }
-    if l < 1 {
-        return false;
-    }
-    if board.tasks < l {
-        return false;
-    }
-    if TOP < n {
-        return false;
-    }
-    has_room(board, words)
+    places == PLACES
+        && (1..=board.cores).contains(&q)
+        && least <= (board.cores - q) as usize
+        && (1..=board.tasks).contains(&l)
+        && n <= TOP
+        && has_room(board, words)
 }
 
 // What one copy of q cores leaves at b, and any copies at 33 + b, for all numbers of cores b from q to the board's: `least` is the fewest cores

@@ -7,6 +7,6 @@ mod ends;
 mod leave;
 mod words;
 
-pub use ends::{first_above, larger, least_rest, lesser, wide};
+pub use ends::{first_above, least_rest};
 pub use leave::{PLACES, left_from};
 pub use words::{NONE, has_room};

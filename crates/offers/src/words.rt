@@ -14,17 +14,7 @@ pub const NONE: u32 = 4294967295;
 pub fn has_room(board: Board, words: usize) -> bool
     ensures { (result ≡ true → Roomy board words) × (result ≡ false → Roomy board words → ⊥) }
 {
-    if board.tasks < 1 {
-        return false;
-    }
-    if MOST_TASKS < board.tasks {
-        return false;
-    }
-    if board.cores < 1 {
-        return false;
-    }
-    if MOST_CORES < board.cores {
-        return false;
-    }
-    WORDS <= words
+    (1..=MOST_TASKS).contains(&board.tasks)
+        && (1..=MOST_CORES).contains(&board.cores)
+        && WORDS <= words
 }

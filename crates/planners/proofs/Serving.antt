@@ -1,6 +1,6 @@
 -- The search on a board's costs: the first of the lightest plans of the fewest cores is the plan of the threshold, and what is found, or that
 -- nothing is, is what the definition that tries every plan says; with it the service, refusal by refusal. Assumes nothing.
-use mathlib.Core.Path.{◌≡◌, ap, ◌∙◌}
+use mathlib.Core.Path.{◌≡◌, sym, ap, ◌∙◌}
 use mathlib.Core.Bool.{true, false}
 use mathlib.Core.List.{List, ◌++◌}
 use mathlib.Core.Logic.{inl, ⊎_elim}
@@ -9,17 +9,24 @@ use Prim.Native.Nat.{ℕ, zero, suc, ◌≤◌, ◌<◌}
 use native.Mathlib.Nat.{le_refl}
 use native.Mathlib.Omega.{arith}
 use lib.ListN.{length, drop, replicate}
-use borrow.Author.Tests.{le-ltb, le-leb, lt-leb, eq-eqb, ne_eqb}
+use borrow.Author.Tests.{le-ltb, le-leb, lt-leb, ne_eqb}
+use Rattle.std.specs.Prelude as prelude
+use Rattle.std.specs.Prelude.{Some, None}
+use Rattle.std.proofs.lemmas.Option.{none-some, same_Some}
 use Rattle.records.specs.declared.Board.{Board}
-use Rattle.records.specs.declared.Reading.{Reading}
+use Rattle.std.specs.Prelude.{Result, Ok, Err}
+use Rattle.records.specs.declared.refusal.Refusal.{Refusal}
+use Rattle.records.specs.declared.refusal.Refusal.TheVariants.{ShortPlan, ShortWork, NoPlan}
+use Rattle.records.specs.Refusals.{number_of as number_for}
+use Rattle.records.proofs.Refusing.{number_some}
 use Rattle.records.specs.Costs.{read_costs}
 use Rattle.records.specs.Format.{IsCosts}
-use Rattle.records.proofs.Cases.{lt_or_le, true_not_false}
-use Rattle.records.proofs.Laws.{accepted_costs}
+use Rattle.records.proofs.Cases.{lt_or_le}
+use Rattle.records.proofs.Laws.{read_accepts}
 use Rattle.modules.specs.Model.{chain_of}
 use Rattle.layout.specs.Layout.{plan_bytes, modules_of, encode_plan}
-use Rattle.figures.specs.declared.Answer.{Answer}
-use Rattle.figures.specs.Plan.{figures_of, refusal}
+use Rattle.figures.specs.declared.PlanFigures.{PlanFigures}
+use Rattle.figures.specs.Plan.{figures_of}
 use Rattle.figures.specs.Rules.{keeps_rules}
 use Rattle.figures.proofs.Kept.{keeps_parts}
 use Rattle.figures.proofs.Decoding.{decode_encode}
@@ -37,11 +44,10 @@ use Rattle.slack.proofs.Enough.{enough_tells}
 use Rattle.threshold.specs.Threshold.{Decided}
 use Rattle.offers.specs.Words.{Area}
 use Rattle.weights.specs.Cells.{no_plan, weight_on, light_on}
-use Rattle.walk.specs.declared.first.Walked.{Walked}
 use Rattle.walk.specs.First.{WalkedTo}
 use Rattle.walk.specs.Walk.{plan_on}
 use Rattle.planners.specs.Reached.{AllReached}
-use Rattle.planners.specs.Best.{work_words, is_better, best_plan, found_answer, found_bytes, begins, best_answer, best_bytes, best_work}
+use Rattle.planners.specs.Best.{work_words, is_better, best_plan, found_answer, found_bytes, begins, answer_on, best_answer, best_bytes, best_work}
 use Rattle.slack.proofs.Instance.{problem_priced, problem_small, rules_kept}
 use Rattle.planners.proofs.Weighing.{problem_laws, better_decides, best_searched}
 use Rattle.planners.proofs.Optimal.{quick, best_answer_lem}
@@ -80,7 +86,7 @@ module _ (s : List ℕ) (b : Board) (costs : IsCosts s b) where
         best_answer_lem s b costs
         ∙ simp (le-ltb (light (problem (chain_of s b)) top_threshold) (cap (problem (chain_of s b))) (unfeasible top_threshold (decided.none_below top_threshold h)))
 
-    pub none_answer : refusal 9 0 ≡ found_answer (chain_of s b) (best_plan (chain_of s b))
+    pub none_answer : Err NoPlan ≡ found_answer (chain_of s b) (best_plan (chain_of s b))
     unfolding found_answer
     none_answer = rw none_found
 
@@ -105,20 +111,20 @@ module _ (s : List ℕ) (b : Board) (costs : IsCosts s b) where
         ∙ sparing_plan (problem c) n (enough_on c n) (problem_laws c (quick s b costs)) (enough_tells c n) feasible
 
   -- what the walk has found, and that it has found nothing
-  module _ {w w' : List ℕ} {x : Walked} (room : Area b w) (walked : WalkedTo (chain_of s b) b w w' x) where
+  module _ {w w' : List ℕ} {x : prelude.Option (List ℕ)} (room : Area b w) (walked : WalkedTo (chain_of s b) b w w' x) where
     light_walked : walked.least ≤ top_threshold → light_on (chain_of s b) walked.least < no_plan b.cores
     light_walked h = light_some walked.least (decided_feasible walked.least (walked.decided room) h)
 
-    pub walked_some : x.found ≡ true → (walked.least ≤ top_threshold) × (x.plan ≡ encode_plan (plan_on (chain_of s b) walked.least))
-    walked_some e = ⊎_elim
-        (λ h. absurd (true_not_false x.found e (walked.none (λ _. inl h)).0))
-        (λ h. (h, (walked.some room h (light_walked h)).1))
+    pub walked_some : {path : List ℕ} → x ≡ Some path → (walked.least ≤ top_threshold) × (path ≡ encode_plan (plan_on (chain_of s b) walked.least))
+    walked_some {path} e = ⊎_elim
+        (λ h. absurd (none-some path (sym (walked.none (λ _. inl h)) ∙ e)))
+        (λ h. (h, same_Some path (encode_plan (plan_on (chain_of s b) walked.least)) (sym e ∙ walked.some room h (light_walked h))))
         (lt_or_le top_threshold walked.least)
 
-    pub walked_none : x.found ≡ false → top_threshold < walked.least
+    pub walked_none : x ≡ None → top_threshold < walked.least
     walked_none e = ⊎_elim
         (λ h. h)
-        (λ h. absurd (true_not_false x.found (walked.some room h (light_walked h)).0 e))
+        (λ h. absurd (none-some (encode_plan (plan_on (chain_of s b) walked.least)) (sym e ∙ walked.some room h (light_walked h))))
         (lt_or_le top_threshold walked.least)
 
   -- the plan of the least feasible threshold
@@ -142,9 +148,9 @@ module _ (s : List ℕ) (b : Board) (costs : IsCosts s b) where
     pub plan_reached : AllReached (chain_of s b) (modules_of path b.tasks)
     plan_reached = rw plan_said (record { each = plan_reach (chain_of s b) (plan (problem (chain_of s b)) n) plan_kept })
 
-    pub plan_answer : {r : Answer} → r ≡ figures_of (chain_of s b) (modules_of path b.tasks) → r ≡ found_answer (chain_of s b) (best_plan (chain_of s b))
+    pub plan_answer : {f : PlanFigures} → f ≡ figures_of (chain_of s b) (modules_of path b.tasks) → Ok f ≡ found_answer (chain_of s b) (best_plan (chain_of s b))
     unfolding found_answer
-    plan_answer e = rw plan_found (e ∙ ap (figures_of (chain_of s b)) plan_said)
+    plan_answer e = rw plan_found (ap Ok (e ∙ ap (figures_of (chain_of s b)) plan_said))
 
     pub plan_bytes_lem : (w : List ℕ) {v : List ℕ} → v ≡ path ++ drop plan_bytes w → v ≡ found_bytes (best_plan (chain_of s b)) w
     unfolding found_bytes
@@ -152,46 +158,46 @@ module _ (s : List ℕ) (b : Board) (costs : IsCosts s b) where
 
 -- ---- the service
 
-pub accepted_is : (s : List ℕ) {r : Reading} → r ≡ read_costs s → r.number ≡ 0 → IsCosts s r.board
-accepted_is s read e = rw read (accepted_costs s (rw (← read) e))
+pub accepted_is : (s : List ℕ) {r : Result Board Refusal} {b : Board} → r ≡ read_costs s → r ≡ Ok b → IsCosts s b
+accepted_is s {b = b} read e = (read_accepts s b).0 (sym read ∙ e)
 
 module _ (s w work : List ℕ) where
   -- the answer, the plan bytes and the work area are what the service is to give
-  abbrev pub Serves : Answer → List ℕ → List ℕ → Type 0
+  abbrev pub Serves : Result PlanFigures Refusal → List ℕ → List ℕ → Type 0
   Serves a v z = (a ≡ best_answer s w work) × (v ≡ best_bytes s w work) × (z ≡ best_work s w work)
 
   -- where no search begins, nothing is written
-  untouched : {a : Answer} → begins s w work ≡ false → a ≡ best_answer s w work → Serves a w work
+  untouched : {a : Result PlanFigures Refusal} → begins s w work ≡ false → a ≡ best_answer s w work → Serves a w work
   unfolding best_bytes best_work
   untouched e answer = (answer, rw e, rw e)
 
-  module _ {r : Reading} {a : Answer} (read : r ≡ read_costs s) where
-    pub refused_costs : (r.number ≡ 0 → ⊥) → a ≡ refusal r.number r.place → Serves a w work
+  module _ {r : Result Board Refusal} (read : r ≡ read_costs s) where
+    pub refused_costs : {e : Refusal} → r ≡ Err e → Serves (Err e) w work
     unfolding best_answer begins
-    refused_costs n e = let t = ne_eqb r.number 0 n in untouched (simp (← read, t)) (simp (← read, t) e)
+    refused_costs {e} z = let t = sym read ∙ z in untouched (simp (t, ne_eqb (number_for e) 0 (number_some e))) (simp t)
 
-    module _ (accepted : r.number ≡ 0) where
-      pub refused_bytes : length w < plan_bytes → a ≡ refusal 7 0 → Serves a w work
-      unfolding best_answer begins
-      refused_bytes h e =
-          let t = eq-eqb r.number 0 accepted in
+    module _ {b : Board} (accepted : r ≡ Ok b) where
+      pub refused_bytes : length w < plan_bytes → Serves (Err ShortPlan) w work
+      unfolding answer_on best_answer begins
+      refused_bytes h =
+          let t = sym read ∙ accepted in
           let u = lt-leb plan_bytes (length w) h in
-          untouched (simp (← read, t, u)) (simp (← read, t, u) e)
+          untouched (simp (t, u)) (simp (t, u))
 
       module _ (long : plan_bytes ≤ length w) where
-        pub refused_work : length work < work_words → a ≡ refusal 8 0 → Serves a w work
-        unfolding best_answer begins
-        refused_work h e =
-            let t = eq-eqb r.number 0 accepted in
+        pub refused_work : length work < work_words → Serves (Err ShortWork) w work
+        unfolding answer_on best_answer begins
+        refused_work h =
+            let t = sym read ∙ accepted in
             let u = le-leb plan_bytes (length w) long in
             let v = lt-leb work_words (length work) h in
-            untouched (simp (← read, t, u, v)) (simp (← read, t, u, v) e)
+            untouched (simp (t, u, v)) (simp (t, u, v))
 
-        pub served : {v z : List ℕ} → work_words ≤ length work → a ≡ found_answer (chain_of s r.board) (best_plan (chain_of s r.board))
-            → v ≡ found_bytes (best_plan (chain_of s r.board)) w → z ≡ replicate (length work) 0 → Serves a v z
-        unfolding best_answer best_bytes best_work begins
+        pub served : {a : Result PlanFigures Refusal} {v z : List ℕ} → work_words ≤ length work → a ≡ found_answer (chain_of s b) (best_plan (chain_of s b))
+            → v ≡ found_bytes (best_plan (chain_of s b)) w → z ≡ replicate (length work) 0 → Serves a v z
+        unfolding answer_on best_answer best_bytes best_work begins
         served h answer bytes zeros =
-            let t = eq-eqb r.number 0 accepted in
+            let t = sym read ∙ accepted in
             let u = le-leb plan_bytes (length w) long in
             let x = le-leb work_words (length work) h in
-            (simp (← read, t, u, x) answer, simp (← read, t, u, x) bytes, simp (← read, t, u, x) zeros)
+            (simp (t, u, x) answer, simp (t, u, x) bytes, simp (t, u, x) zeros)

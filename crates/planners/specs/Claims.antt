@@ -1,6 +1,6 @@
 -- Demand 3 in the documents' words (document 01; document 02, M-104): a plan comes before a rival. Assumes nothing.
-use Rattle.std.specs.Prelude.{ℕ, ◌<◌, ◌≡◌, true, List, ◌++◌, ◌⊎◌, drop}
-use Rattle.records.specs.Costs.{read_costs}
+use Rattle.std.specs.Prelude.{ℕ, ◌<◌, ◌≡◌, true, List, ◌++◌, ◌⊎◌, drop, Ok}
+use Rattle.records.specs.Costs.{board_in, read_costs}
 use Rattle.modules.specs.declared.Module.{Module}
 use Rattle.modules.specs.Model.{Chain, chain_of}
 use Rattle.layout.specs.Layout.{plan_bytes, encode_plan}
@@ -24,10 +24,10 @@ ComesFirst c a b =
 -- it keeps the rules, and comes before every plan that does
 pub record BestFor (c : Chain) (s w work : List ℕ) (a : List Module) : Type 0 where
   pub bytes : best_bytes s w work ≡ encode_plan a ++ drop plan_bytes w
-  pub figures : best_answer s w work ≡ figures_of c a
+  pub figures : best_answer s w work ≡ Ok (figures_of c a)
   pub keeps : keeps_rules c a ≡ true
   pub first : (b : List Module) → keeps_rules c b ≡ true → ComesFirst c a b
 
 -- the same on the chain of these costs
 abbrev pub Filled : List ℕ → List ℕ → List ℕ → List Module → Type 0
-Filled s = BestFor (chain_of s (read_costs s).board) s
+Filled s = BestFor (chain_of s (board_in (read_costs s))) s

@@ -1,7 +1,7 @@
 // Document 01's Best plan: of all plans that keep the rules the one of least bottleneck, then of fewest cores, then of least single-block
 // time (document 02, M-104), then first in module order.
 //
-// It fills the lent plan bytes and answers with the plan's figures, or refuses by number and leaves them as they came.
+// It fills the lent plan bytes and answers with the plan's figures, or refuses and leaves them as they came.
 #![tactic(auto)]
 
 mod best;

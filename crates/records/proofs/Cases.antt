@@ -2,6 +2,7 @@
 use mathlib.Core.Path.{◌≡◌, refl, sym}
 use mathlib.Core.Bool.{Bool, true, false, ◌&&◌, ◌||◌}
 use mathlib.Core.Logic.{◌⊎◌, inl, inr}
+use Rattle.std.specs.Prelude.{Result, Ok, Err}
 use Prim.Native.Nat.{ℕ, zero, suc, ◌*◌, ◌≤◌, ◌<◌}
 use native.Mathlib.Nat.{mul-zero}
 use native.Mathlib.Decide.{dec_lt}
@@ -42,3 +43,18 @@ or_right false u e f = e
 pub or_unless : (t u : Bool) → (t ≡ false → u ≡ true) → (t || u) ≡ true
 or_unless true u h = refl
 or_unless false u h = h refl
+
+-- an outcome without a value, or an error
+pub fine_or_not : {E : Type 0} (r : Result Unit E) → (r ≡ Ok tt) ⊎ ((e : E) × (r ≡ Err e))
+fine_or_not (Ok u) = inl refl
+fine_or_not (Err e) = inr (e, refl)
+
+-- and not both
+pub not_fine : {A E : Type 0} {x : A} {e : E} → ◌≡◌ {A = Result A E} (Ok x) (Err e) → ⊥
+not_fine h = cc
+
+pub same_value : {A E : Type 0} {x y : A} → ◌≡◌ {A = Result A E} (Ok x) (Ok y) → x ≡ y
+same_value h = cc
+
+pub same_error : {A E : Type 0} {x y : E} → ◌≡◌ {A = Result A E} (Err x) (Err y) → x ≡ y
+same_error h = cc

@@ -1,10 +1,10 @@
 -- The reader's definition against document 01's direct statement: each test holds exactly where its claim does, so
 -- `read_costs` finds exactly what is to be found. Assumes nothing.
-use mathlib.Core.Path.{◌≡◌, refl, sym, ◌∙◌}
+use mathlib.Core.Path.{subst, ◌≡◌, refl, sym}
 use mathlib.Core.List.{List}
-use mathlib.Core.Bool.{true, false, cond, not, ◌&&◌, ◌||◌}
+use mathlib.Core.Bool.{true, false, not, ◌&&◌, ◌||◌}
 use mathlib.Core.Logic.{⊎_elim}
-use Prim.Native.Nat.{ℕ, suc, ◌+◌, ◌*◌, ◌%◌, ◌≤◌, ◌<◌}
+use Prim.Native.Nat.{ℕ, ◌+◌, ◌*◌, ◌%◌, ◌≤◌, ◌<◌}
 use native.Mathlib.Nat.{mul-mod_right}
 use native.Mathlib.Omega.{arith}
 use lib.ListN.{length, drop}
@@ -12,14 +12,22 @@ use lib.Dec.{eqb, leb}
 use borrow.Author.Tests.{eq-eqb, ne_eqb, le-leb, eqb-true, eqb-false, leb-true}
 use Rattle.fields.specs.Fields.{byte_at, value_at}
 use Rattle.records.specs.declared.Board.{Board}
-use Rattle.records.specs.declared.Reading.{Reading}
-use Rattle.records.specs.declared.Refusal.{Refusal}
+use Rattle.std.specs.Prelude.{Result, Ok, Err}
+use Rattle.records.specs.declared.refusal.Fault.{Fault}
+use Rattle.records.specs.declared.refusal.Fault.TheVariants.{WrongKey, WrongValue}
+use Rattle.records.specs.declared.refusal.Refusal.{Refusal}
+use Rattle.records.specs.declared.refusal.Refusal.TheVariants.{NotWhole, NoBoard, BoardRange, Faulty}
+use Rattle.records.specs.Refusals.{number_in, and_then}
 use Rattle.records.specs.declared.Key.{Key}
-use Rattle.records.specs.Costs.{most_tasks, most_cores, most_value, due_keys, count_of, task_meets, key_meets, value_meets, fault_at, first_fault, accepted, refused, length_meets, head_meets, board_of, board_meets, read_head, read_board, read_records, read_costs}
+use Rattle.records.specs.Costs.{most_tasks, most_cores, most_value, due_keys, count_of, task_meets, key_meets, value_meets, fault_at, first_fault, length_meets, head_meets, board_of, board_meets, read_head, read_board, read_records, read_costs}
 use Rattle.records.specs.Format.{Bears, InRange, Deserves, Deserves.right, Deserves.wrong_key, Deserves.wrong_value, Whole, Headed, Ranged, Long, due_at, RightBelow, IsCosts, Opens, Opens.board, Opens.length_wrong as opens-length, Opens.head_wrong as opens-head, Opens.board_wrong as opens-board, Framed, Finds, Finds.costs, Finds.length_wrong, Finds.head_wrong, Finds.board_wrong, Finds.count_wrong, Finds.key_wrong, Finds.value_wrong}
-use Rattle.records.proofs.Cases.{true_or_false, true_not_false, false_unless, and-true, or_right, or_unless}
+use Rattle.records.proofs.Cases.{not_fine, same_value, same_error, true_or_false, true_not_false, false_unless, and-true, or_right, or_unless}
 use Rattle.records.proofs.Listing.{keys_count}
 use Rattle.records.proofs.Walk.{fault_of, Scanned, Scanned.clean, Scanned.found, scanned, scanned_only}
+
+-- a record at fault has one fault
+keys_apart : WrongValue ≡ WrongKey → ⊥
+keys_apart h = cc
 
 -- ---- one record
 
@@ -82,19 +90,19 @@ module _ (s : List ℕ) (n : ℕ) (d : Key) where
       (λ (t : key_meets s n d ≡ false). rw t (wrong_key (λ b. true_not_false _ (bears_meets b) t)))
       (true_or_false (key_meets s n d))
 
-  pub deserved_only : (f : ℕ) → Deserves s n d f → fault_at s n d ≡ f
+  pub deserved_only : (f : Result Unit Fault) → Deserves s n d f → fault_at s n d ≡ f
   unfolding fault_at
   deserved_only f (right b r) = simp (bears_meets b, in_range_meets r)
   deserved_only f (wrong_key b) = simp (false_unless (key_meets s n d) meets_bears b)
   deserved_only f (wrong_value b r) = simp (bears_meets b, false_unless (value_meets s n d) meets_in_range r)
 
-  pub no_fault_right : fault_at s n d ≡ 0 → Bears s n d × InRange s n d
+  pub no_fault_right : fault_at s n d ≡ Ok tt → Bears s n d × InRange s n d
   no_fault_right e = none (fault_at s n d) deserved e
     where
-      none : (f : ℕ) → Deserves s n d f → f ≡ 0 → Bears s n d × InRange s n d
+      none : (f : Result Unit Fault) → Deserves s n d f → f ≡ Ok tt → Bears s n d × InRange s n d
       none f (right b r) z = (b, r)
-      none f (wrong_key b) z = absurd (omega arith)
-      none f (wrong_value b r) z = absurd (omega arith)
+      none f (wrong_key b) z = absurd (not_fine (sym z))
+      none f (wrong_value b r) z = absurd (not_fine (sym z))
 
 -- ---- what stands before the walk
 
@@ -157,11 +165,11 @@ module _ (s : List ℕ) where
   unfolding b
   keys = due_keys b.tasks b.cores
 
-  right_below : (n : ℕ) → ((i : ℕ) → 1 ≤ i → i < n → fault_of s keys i ≡ 0) → RightBelow s b n
+  right_below : (n : ℕ) → ((i : ℕ) → 1 ≤ i → i < n → fault_of s keys i ≡ Ok tt) → RightBelow s b n
   unfolding keys b
   right_below n h i l u = no_fault_right s i (due_at b i) (h i l u)
 
-  walked : Framed s → (f : Refusal) → Scanned s keys 1 f → Finds s (cond (eqb f.number 0) (accepted b) (refused f.number f.place))
+  walked : Framed s → (f : Result Unit Refusal) → Scanned s keys 1 f → Finds s (and_then (λ u. Ok b) f)
   unfolding keys b
   walked g f (clean h) =
       costs b (record {
@@ -171,15 +179,20 @@ module _ (s : List ℕ) where
         long = g.long;
         right = right_below (count_of b.tasks b.cores) (λ i l u. h i l (omega (arith, keys_count b.tasks b.cores)));
       })
-  walked g f (found i l u h z) = faulty (fault_of s keys i) (deserved s i (due_at b i)) z
+  walked g f (found i l u h x z) = faulty x (subst (λ (y : Result Unit Fault). Deserves s i (due_at b i) y) z (deserved s i (due_at b i)))
     where
       inside : i < count_of b.tasks b.cores
       inside = omega (arith, keys_count b.tasks b.cores)
 
-      faulty : (n : ℕ) → Deserves s i (due_at b i) n → (n ≡ 0 → ⊥) → Finds s (cond (eqb n 0) (accepted b) (refused n (i + 1)))
-      faulty n (right c r) z = absurd (z refl)
-      faulty n (wrong_key c) z = key_wrong i g l inside (right_below i h) c
-      faulty n (wrong_value c r) z = value_wrong i g l inside (right_below i h) c r
+      faulty : (f : Fault) → Deserves s i (due_at b i) (Err f) → Finds s (Err (Faulty f (i + 1)))
+      faulty f d = decided (Err f) f d refl
+        where
+          decided : (y : Result Unit Fault) (f : Fault) → Deserves s i (due_at b i) y → y ≡ Err f → Finds s (Err (Faulty f (i + 1)))
+          decided y f (right c r) e = absurd (not_fine e)
+          decided y WrongKey (wrong_key c) e = key_wrong i g l inside (right_below i h) c
+          decided y WrongValue (wrong_key c) e = absurd (keys_apart (sym (same_error e)))
+          decided y WrongValue (wrong_value c r) e = value_wrong i g l inside (right_below i h) c r
+          decided y WrongKey (wrong_value c r) e = absurd (keys_apart (same_error e))
 
   long_finds : Whole s → Headed s → Ranged b → Finds s (read_records s b)
   unfolding read_records keys b
@@ -206,24 +219,24 @@ module _ (s : List ℕ) where
       (λ t. rw t (opens-length (λ w. true_not_false _ (whole_meets s w) t)))
       (true_or_false (length_meets s))
 
-  pub opens_only : (r : Reading) → Opens s r → read_board s ≡ r
+  pub opens_only : (r : Result Board Refusal) → Opens s r → read_board s ≡ r
   unfolding b read_head read_board
   opens_only r (board w h g) = simp (whole_meets s w, headed_meets s h, ranged_meets b g)
   opens_only r (opens-length w) = simp (false_unless (length_meets s) (meets_whole s) w)
   opens_only r (opens-head w h) = simp (whole_meets s w, false_unless (head_meets s) (meets_headed s) h)
   opens_only r (opens-board w h g) = simp (whole_meets s w, headed_meets s h, false_unless (board_meets b) (meets_ranged b) g)
 
-  pub opens_ranged : (r : Reading) → r ≡ read_board s → r.number ≡ 0 → Ranged r.board
-  opens_ranged r e z = ranged r (rw (← e) at opens) z
+  pub opens_ranged : {c : Board} → read_board s ≡ Ok c → Ranged c
+  opens_ranged {c} e = ranged (read_board s) opens e
     where
-      ranged : (r : Reading) → Opens s r → r.number ≡ 0 → Ranged r.board
-      ranged r (board w h g) z = g
-      ranged r (opens-length w) z = absurd (omega arith)
-      ranged r (opens-head w h) z = absurd (omega arith)
-      ranged r (opens-board w h g) z = absurd (omega arith)
+      ranged : (r : Result Board Refusal) → Opens s r → r ≡ Ok c → Ranged c
+      ranged r (board w h g) z = subst Ranged (same_value z) g
+      ranged r (opens-length w) z = absurd (not_fine (sym z))
+      ranged r (opens-head w h) z = absurd (not_fine (sym z))
+      ranged r (opens-board w h g) z = absurd (not_fine (sym z))
 
   -- what follows the first record, or its refusal
-  after : (r : Reading) → Opens s r → Finds s (cond (eqb r.number 0) (read_records s r.board) r)
+  after : (r : Result Board Refusal) → Opens s r → Finds s (and_then (read_records s) r)
   unfolding b
   after r (board w h g) = long_finds w h g
   after r (opens-length w) = length_wrong w
@@ -236,58 +249,57 @@ module _ (s : List ℕ) where
 
   -- ---- what is to be found, reading finds
 
-  framed_reads : (f : Refusal) → Framed s → Scanned s keys 1 f → read_costs s ≡ cond (eqb f.number 0) (accepted b) (refused f.number f.place)
+  framed_reads : (f : Result Unit Refusal) → Framed s → Scanned s keys 1 f → read_costs s ≡ and_then (λ u. Ok b) f
   unfolding read_costs read_records keys b
   framed_reads f g h =
       let e = scanned_only s keys 1 f (omega (arith, keys_count b.tasks b.cores, some_records b.tasks b.cores)) h in
-      simp (opens_only (accepted b) (board g.whole g.headed g.ranged), eq-eqb (length s) (8 * count_of b.tasks b.cores) g.long, e)
+      simp (opens_only (Ok b) (board g.whole g.headed g.ranged), eq-eqb (length s) (8 * count_of b.tasks b.cores) g.long, e)
 
   costs_whole : Long s b → Whole s
   unfolding b
   costs_whole h = record { some = omega (arith, some_records b.tasks b.cores); whole = rw h (mul-mod_right 8 (count_of b.tasks b.cores)) }
 
-  costs_reads : IsCosts s b → read_costs s ≡ accepted b
+  costs_reads : IsCosts s b → read_costs s ≡ Ok b
   unfolding keys b
   costs_reads c =
-      framed_reads (record { number = 0; place = 0 }) (record { whole = costs_whole c.long; headed = c.headed; ranged = c.ranged; long = c.long })
-      (clean (λ i l u. let r = c.right i l (omega (arith, keys_count b.tasks b.cores)) in deserved_only s i (due_at b i) 0 (right r.0 r.1)))
+      framed_reads (Ok tt) (record { whole = costs_whole c.long; headed = c.headed; ranged = c.ranged; long = c.long })
+      (clean (λ i l u. let r = c.right i l (omega (arith, keys_count b.tasks b.cores)) in deserved_only s i (due_at b i) (Ok tt) (right r.0 r.1)))
 
   -- the first record of accepted costs says their board
-  pub costs_board : (c : Board) → IsCosts s c → read_board s ≡ accepted c
+  pub costs_board : (c : Board) → IsCosts s c → read_board s ≡ Ok c
   unfolding b
   costs_board c h =
       let g = rw h.board at h in
-      rw h.board (opens_only (accepted b) (board (costs_whole g.long) g.headed g.ranged))
+      rw h.board (opens_only (Ok b) (board (costs_whole g.long) g.headed g.ranged))
 
   module _ (n : ℕ) (g : Framed s) (l : 1 ≤ n) (u : n < count_of b.tasks b.cores) (before : RightBelow s b n) where
-    fault_reads : (number : ℕ) → fault_at s n (due_at b n) ≡ suc number → read_costs s ≡ refused (suc number) (n + 1)
+    fault_reads : (f : Fault) → fault_at s n (due_at b n) ≡ Err f → read_costs s ≡ Err (Faulty f (n + 1))
     unfolding keys b
-    fault_reads number e =
-        framed_reads (record { number = fault_of s keys n; place = n + 1 }) g
+    fault_reads f e =
+        framed_reads (Err (Faulty f (n + 1))) g
         (found n l (omega (arith, keys_count b.tasks b.cores))
-        (λ j p q. let r = before j p q in deserved_only s j (due_at b j) 0 (right r.0 r.1)) (λ z. omega (arith, sym e ∙ z)))
-        ∙ rw e (simp (ne_eqb (suc number) 0 (λ z. omega arith)))
+        (λ j p q. let r = before j p q in deserved_only s j (due_at b j) (Ok tt) (right r.0 r.1)) f e)
 
-  pub reads_only : (r : Reading) → Finds s r → read_costs s ≡ r
+  pub reads_only : (r : Result Board Refusal) → Finds s r → read_costs s ≡ r
   unfolding b read_costs read_records
   reads_only r (costs c h) = rw h.board (costs_reads (rw h.board at h))
-  reads_only r (length_wrong w) = simp (opens_only (refused 1 0) (opens-length w))
-  reads_only r (head_wrong w h) = simp (opens_only (refused 2 0) (opens-head w h))
-  reads_only r (board_wrong w h g) = simp (opens_only (refused 3 0) (opens-board w h g))
-  reads_only r (count_wrong w h g c) = simp (opens_only (accepted b) (board w h g), ne_eqb (length s) (8 * count_of b.tasks b.cores) c)
-  reads_only r (key_wrong n g l u before k) = fault_reads n g l u before 4 (deserved_only s n (due_at b n) 5 (wrong_key k))
-  reads_only r (value_wrong n g l u before k v) = fault_reads n g l u before 5 (deserved_only s n (due_at b n) 6 (wrong_value k v))
+  reads_only r (length_wrong w) = simp (opens_only (Err NotWhole) (opens-length w))
+  reads_only r (head_wrong w h) = simp (opens_only (Err NoBoard) (opens-head w h))
+  reads_only r (board_wrong w h g) = simp (opens_only (Err BoardRange) (opens-board w h g))
+  reads_only r (count_wrong w h g c) = simp (opens_only (Ok b) (board w h g), ne_eqb (length s) (8 * count_of b.tasks b.cores) c)
+  reads_only r (key_wrong n g l u before k) = fault_reads n g l u before WrongKey (deserved_only s n (due_at b n) (Err WrongKey) (wrong_key k))
+  reads_only r (value_wrong n g l u before k v) = fault_reads n g l u before WrongValue (deserved_only s n (due_at b n) (Err WrongValue) (wrong_value k v))
 
-  pub finds_costs : (r : Reading) → Finds s r → r.number ≡ 0 → IsCosts s r.board
-  finds_costs r (costs c h) e = h
-  finds_costs r (length_wrong w) e = absurd (omega arith)
-  finds_costs r (head_wrong w h) e = absurd (omega arith)
-  finds_costs r (board_wrong w h g) e = absurd (omega arith)
-  finds_costs r (count_wrong w h g c) e = absurd (omega arith)
-  finds_costs r (key_wrong n g l u before k) e = absurd (omega arith)
-  finds_costs r (value_wrong n g l u before k v) e = absurd (omega arith)
+  pub finds_costs : {c : Board} (r : Result Board Refusal) → Finds s r → r ≡ Ok c → IsCosts s c
+  finds_costs r (costs d h) e = subst (IsCosts s) (same_value e) h
+  finds_costs r (length_wrong w) e = absurd (not_fine (sym e))
+  finds_costs r (head_wrong w h) e = absurd (not_fine (sym e))
+  finds_costs r (board_wrong w h g) e = absurd (not_fine (sym e))
+  finds_costs r (count_wrong w h g c) e = absurd (not_fine (sym e))
+  finds_costs r (key_wrong n g l u before k) e = absurd (not_fine (sym e))
+  finds_costs r (value_wrong n g l u before k v) e = absurd (not_fine (sym e))
 
-  pub finds_most : (r : Reading) → Finds s r → r.number ≤ 6
+  pub finds_most : (r : Result Board Refusal) → Finds s r → number_in r ≤ 6
   finds_most r (costs c h) = omega arith
   finds_most r (length_wrong w) = omega arith
   finds_most r (head_wrong w h) = omega arith

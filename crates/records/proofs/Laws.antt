@@ -6,9 +6,13 @@ use mathlib.Core.Logic.{◌↔◌}
 use Prim.Native.Nat.{ℕ, ◌≤◌, ◌<◌}
 use lib.ListN.{length, get_or}
 use Rattle.records.specs.declared.Board.{Board}
-use Rattle.records.specs.declared.Reading.{Reading}
 use Rattle.records.specs.declared.Key.{Key}
-use Rattle.records.specs.Costs.{key, due_keys, due_key, count_of, fault_at, accepted, read_board, read_costs}
+use Rattle.records.specs.declared.refusal.Fault.{Fault}
+use Rattle.records.specs.declared.refusal.Refusal.{Refusal}
+use Rattle.records.specs.Refusals.{number_in}
+use Rattle.records.proofs.Refusing.{none_is_read}
+use Rattle.std.specs.Prelude.{Result, Ok}
+use Rattle.records.specs.Costs.{key, due_keys, due_key, count_of, fault_at, board_in, read_board, read_costs}
 use Rattle.records.specs.Format.{Deserves, Ranged, Long, IsCosts, Opens, Finds, Finds.costs}
 use Rattle.records.proofs.Exact as exact
 use Rattle.records.proofs.Listing as listing
@@ -29,36 +33,39 @@ module _ (k p : ℕ) (none : Key) where
 
 -- ---- one record: each of refusals 5 and 6 is due exactly under its condition
 
-pub fault_exactly : (s : List ℕ) (n : ℕ) (d : Key) (f : ℕ) → (fault_at s n d ≡ f) ↔ Deserves s n d f
+pub fault_exactly : (s : List ℕ) (n : ℕ) (d : Key) (f : Result Unit Fault) → (fault_at s n d ≡ f) ↔ Deserves s n d f
 fault_exactly s n d f = (λ e. rw e at (exact.deserved s n d), exact.deserved_only s n d f)
 
 -- ---- the first record: each of refusals 1 to 3 is due exactly under its condition
 
-pub board_exactly : (s : List ℕ) (r : Reading) → (read_board s ≡ r) ↔ Opens s r
+pub board_exactly : (s : List ℕ) (r : Result Board Refusal) → (read_board s ≡ r) ↔ Opens s r
 board_exactly s r = (λ e. rw e at (exact.opens s), exact.opens_only s r)
 
 -- ---- reading: exactly what document 01 describes is accepted, and each refusal is due exactly under its condition
 
-pub read_exactly : (s : List ℕ) (r : Reading) → (read_costs s ≡ r) ↔ Finds s r
+pub read_exactly : (s : List ℕ) (r : Result Board Refusal) → (read_costs s ≡ r) ↔ Finds s r
 read_exactly s r = (λ e. rw e at (exact.reads s), exact.reads_only s r)
 
-pub read_accepts : (s : List ℕ) (b : Board) → (read_costs s ≡ accepted b) ↔ IsCosts s b
-read_accepts s b = (λ e. exact.finds_costs s (accepted b) ((read_exactly s (accepted b)).0 e) refl, λ c. exact.reads_only s (accepted b) (costs b c))
+pub read_accepts : (s : List ℕ) (b : Board) → (read_costs s ≡ Ok b) ↔ IsCosts s b
+read_accepts s b = (λ e. exact.finds_costs s (Ok b) ((read_exactly s (Ok b)).0 e) refl, λ c. exact.reads_only s (Ok b) (costs b c))
 
 -- there is no other refusal than 1 to 6
-pub refused_most : (s : List ℕ) → (read_costs s).number ≤ 6
+pub refused_most : (s : List ℕ) → number_in (read_costs s) ≤ 6
 refused_most s = exact.finds_most s (read_costs s) (exact.reads s)
 
 -- number 0 means accepted: the board is in range, and the length is that of its count
-pub accepted_costs : (s : List ℕ) → (read_costs s).number ≡ 0 → IsCosts s (read_costs s).board
-accepted_costs s = exact.finds_costs s (read_costs s) (exact.reads s)
+pub accepted_read : (s : List ℕ) → number_in (read_costs s) ≡ 0 → read_costs s ≡ Ok (board_in (read_costs s))
+accepted_read s e = none_is_read (read_costs s) e
 
-pub accepted_ranges : (s : List ℕ) → (read_costs s).number ≡ 0 → Ranged (read_costs s).board × Long s (read_costs s).board
+pub accepted_costs : (s : List ℕ) → number_in (read_costs s) ≡ 0 → IsCosts s (board_in (read_costs s))
+accepted_costs s e = exact.finds_costs s (read_costs s) (exact.reads s) (accepted_read s e)
+
+pub accepted_ranges : (s : List ℕ) → number_in (read_costs s) ≡ 0 → Ranged (board_in (read_costs s)) × Long s (board_in (read_costs s))
 accepted_ranges s e = let c = accepted_costs s e in (c.ranged, c.long)
 
 -- and what the first record alone says is that board
-pub accepted_board : (s : List ℕ) → (read_costs s).number ≡ 0 → read_board s ≡ accepted (read_costs s).board
-accepted_board s e = exact.costs_board s (read_costs s).board (accepted_costs s e)
+pub accepted_board : (s : List ℕ) → number_in (read_costs s) ≡ 0 → read_board s ≡ Ok (board_in (read_costs s))
+accepted_board s e = exact.costs_board s (board_in (read_costs s)) (accepted_costs s e)
 
 -- ---- M-106: "refusal 2 tests the kind only, and 5 passes over that byte": of two files that differ in the first record's task byte alone the
 -- same is read

@@ -4,6 +4,7 @@ pub mod Cases
 pub mod Exact
 pub mod Laws
 pub mod Listing
+pub mod Refusing
 pub mod Same
 pub mod Walk
 pub mod Words

@@ -5,7 +5,9 @@ use Prim.Native.Nat.{ℕ, ◌+◌, ◌*◌, ◌≤◌}
 use native.Mathlib.Omega.{arith}
 use lib.ListN.{length, get_or}
 use Rattle.fields.specs.Fields.{byte_at, value_at}
+use Rattle.records.specs.declared.Board.{Board}
 use Rattle.records.specs.declared.Key.{Key}
+use Rattle.records.proofs.Refusing.{then_same}
 use Rattle.records.specs.Costs.{task_meets, key_meets, value_meets, fault_at, first_fault, length_meets, head_meets, read_head, read_board, read_records, read_costs}
 
 module _ (s s' : List ℕ) (long : length s ≡ length s') (same : (i : ℕ) → (i ≡ 1 → ⊥) → get_or s i 0 ≡ get_or s' i 0) where
@@ -26,6 +28,14 @@ module _ (s s' : List ℕ) (long : length s ≡ length s') (same : (i : ℕ) →
   faults_same n [] h = refl
   faults_same n (d ∷ ds) h = rw (fault_same n d h, faults_same (n + 1) ds (omega arith)) (refl)
 
+  head_same : read_board s ≡ read_board s'
+  unfolding length_meets head_meets read_head read_board
+  head_same = rw (long, same 0 (λ e. omega arith), same 2 (λ e. omega arith), same 3 (λ e. omega arith), value_same 0) (refl)
+
+  records_same : (b : Board) → read_records s b ≡ read_records s' b
+  unfolding read_records
+  records_same b = rw (long, faults_same 1 _ (omega arith)) (refl)
+
   pub read_same : read_costs s ≡ read_costs s'
-  unfolding length_meets head_meets read_head read_board read_records read_costs
-  read_same = rw (long, same 0 (λ e. omega arith), same 2 (λ e. omega arith), same 3 (λ e. omega arith), value_same 0, faults_same 1 _ (omega arith)) (refl)
+  unfolding read_costs
+  read_same = rw head_same (then_same records_same (read_board s'))

@@ -1,11 +1,14 @@
 -- Cost records, document 01, "Cost records" and refusals 1 to 6: what reading a file finds.
 -- A file is a list of bytes; records are counted from 0 here and a refusal's place from 1. Assumes nothing.
-use Rattle.std.specs.Prelude.{ℕ, zero, suc, ◌+◌, ◌-◌, ◌*◌, ◌/◌, ◌%◌, List, [], ◌∷◌, ◌++◌, Bool, cond, not, ◌&&◌, ◌||◌, length, drop, ltb, leb, eqb}
+use Rattle.std.specs.Prelude.{ℕ, zero, suc, ◌+◌, ◌-◌, ◌*◌, ◌/◌, ◌%◌, List, [], ◌∷◌, ◌++◌, Bool, cond, not, ◌&&◌, ◌||◌, length, drop, ltb, leb, eqb, Result, Ok, Err}
 use Rattle.fields.specs.Fields.{byte_at, value_at}
 use Rattle.records.specs.declared.Board.{Board}
-use Rattle.records.specs.declared.Reading.{Reading}
-use Rattle.records.specs.declared.Refusal.{Refusal}
 use Rattle.records.specs.declared.Key.{Key}
+use Rattle.records.specs.declared.refusal.Fault.{Fault}
+use Rattle.records.specs.declared.refusal.Fault.TheVariants.{WrongKey, WrongValue}
+use Rattle.records.specs.declared.refusal.Refusal.{Refusal}
+use Rattle.records.specs.declared.refusal.Refusal.TheVariants.{NotWhole, NoBoard, BoardRange, WrongLength, Faulty}
+use Rattle.records.specs.Refusals.{and_then}
 
 -- the most tasks, the most cores, the most KiB or ticks of a value
 abbrev pub most_tasks : ℕ
@@ -79,26 +82,26 @@ key_meets s n d =
 unfoldable pub value_meets : List ℕ → ℕ → Key → Bool
 value_meets s n d = leb (value_at s n) most_value && (not (eqb d.kind 2) || (leb (byte_at s n 2) 1 && leb (byte_at s n 3) most_cores))
 
--- the refusal that record n deserves, 0 for none; in one record 5 goes first
-unfoldable pub fault_at : List ℕ → ℕ → Key → ℕ
-fault_at s n d = cond (key_meets s n d) (cond (value_meets s n d) 0 6) 5
+-- what is wrong in record n: refusal 5, refusal 6 or nothing; in one record 5 goes first
+unfoldable pub fault_at : List ℕ → ℕ → Key → Result Unit Fault
+fault_at s n d = cond (key_meets s n d) (cond (value_meets s n d) (Ok tt) (Err WrongValue)) (Err WrongKey)
+
+-- what is wrong in the record at that place, as a refusal
+abbrev pub placed : ℕ → Result Unit Fault → Result Unit Refusal
+placed place (Ok u) = Ok u
+placed place (Err f) = Err (Faulty f place)
 
 -- the records from n on against a list of keys: the earliest faulty one decides
-unfoldable pub first_fault : List ℕ → ℕ → List Key → Refusal
-first_fault s n [] = record { number = 0; place = 0 }
-first_fault s n (d ∷ ds) =
-    let f = fault_at s n d in
-    let rest = first_fault s (n + 1) ds in
-    cond (eqb f 0) rest (record { number = f; place = n + 1 })
+unfoldable pub first_fault : List ℕ → ℕ → List Key → Result Unit Refusal
+first_fault s n [] = Ok tt
+first_fault s n (d ∷ ds) = and_then (λ u. first_fault s (n + 1) ds) (placed (n + 1) (fault_at s n d))
 
 -- ---- a whole file
 
-abbrev pub accepted : Board → Reading
-accepted b = record { number = 0; place = 0; board = b }
-
--- a refusal has zero figures
-abbrev pub refused : ℕ → ℕ → Reading
-refused number place = record { number = number; place = place; board = record { tasks = 0; cores = 0; capacity = 0 } }
+-- the board that reading finds; a refusal has zero figures
+abbrev pub board_in : Result Board Refusal → Board
+board_in (Ok b) = b
+board_in (Err e) = record { tasks = 0; cores = 0; capacity = 0 }
 
 -- refusal 1: at least one record, and whole ones
 unfoldable pub length_meets : List ℕ → Bool
@@ -118,19 +121,18 @@ board_meets b =
     leb 1 b.cores && leb b.cores most_cores && leb 1 b.tasks && leb b.tasks most_tasks && leb 1 b.capacity && leb b.capacity most_value
 
 -- refusals 2 and 3, or the board that the first record states
-unfoldable pub read_head : List ℕ → Reading
-read_head s = cond (head_meets s) (cond (board_meets (board_of s)) (accepted (board_of s)) (refused 3 0)) (refused 2 0)
+unfoldable pub read_head : List ℕ → Result Board Refusal
+read_head s = cond (head_meets s) (cond (board_meets (board_of s)) (Ok (board_of s)) (Err BoardRange)) (Err NoBoard)
 
 -- the same after refusal 1
-unfoldable pub read_board : List ℕ → Reading
-read_board s = cond (length_meets s) (read_head s) (refused 1 0)
+unfoldable pub read_board : List ℕ → Result Board Refusal
+read_board s = cond (length_meets s) (read_head s) (Err NotWhole)
 
 -- refusal 4, then the walk over the records after the first
-unfoldable pub read_records : List ℕ → Board → Reading
+unfoldable pub read_records : List ℕ → Board → Result Board Refusal
 read_records s b =
-    let f = first_fault s 1 (drop 1 (due_keys b.tasks b.cores)) in
-    cond (eqb (length s) (8 * count_of b.tasks b.cores)) (cond (eqb f.number 0) (accepted b) (refused f.number f.place)) (refused 4 0)
+    cond (eqb (length s) (8 * count_of b.tasks b.cores)) (and_then (λ u. Ok b) (first_fault s 1 (drop 1 (due_keys b.tasks b.cores)))) (Err WrongLength)
 
 -- what reading the file s finds
-unfoldable pub read_costs : List ℕ → Reading
-read_costs s = let r = read_board s in cond (eqb r.number 0) (read_records s r.board) r
+unfoldable pub read_costs : List ℕ → Result Board Refusal
+read_costs s = and_then (read_records s) (read_board s)

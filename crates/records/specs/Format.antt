@@ -1,11 +1,14 @@
 -- Document 01's cost records as a direct statement, beside the reader's definition of `Costs`: which byte strings are a
 -- board's costs, and when each refusal is due. Assumes nothing.
-use Rattle.std.specs.Prelude.{◌≡◌, List, ℕ, ◌+◌, ◌*◌, ◌%◌, ◌≤◌, ◌<◌, length, get_or}
+use Rattle.std.specs.Prelude.{◌≡◌, List, ℕ, ◌+◌, ◌*◌, ◌%◌, ◌≤◌, ◌<◌, length, get_or, Result, Ok, Err}
 use Rattle.fields.specs.Fields.{byte_at, value_at}
 use Rattle.records.specs.declared.Board.{Board}
-use Rattle.records.specs.declared.Reading.{Reading}
 use Rattle.records.specs.declared.Key.{Key}
-use Rattle.records.specs.Costs.{most_tasks, most_cores, most_value, key, due_keys, count_of, board_of, accepted, refused}
+use Rattle.records.specs.declared.refusal.Fault.{Fault}
+use Rattle.records.specs.declared.refusal.Fault.TheVariants.{WrongKey, WrongValue}
+use Rattle.records.specs.declared.refusal.Refusal.{Refusal}
+use Rattle.records.specs.declared.refusal.Refusal.TheVariants.{NotWhole, NoBoard, BoardRange, WrongLength, Faulty}
+use Rattle.records.specs.Costs.{most_tasks, most_cores, most_value, key, due_keys, count_of, board_of}
 
 -- record n of s has that kind, task, a and b, the flag and the limit (M-100) of kind 2 and the task byte of kind 1 (M-106) aside
 pub record Bears (s : List ℕ) (n : ℕ) (d : Key) : Type 0 where
@@ -21,10 +24,10 @@ pub record InRange (s : List ℕ) (n : ℕ) (d : Key) : Type 0 where
   pub limit : d.kind ≡ 2 → byte_at s n 3 ≤ most_cores
 
 -- the refusal that record n deserves where the key is due: none, 5, or 6; in one record 5 goes first
-pub data Deserves (s : List ℕ) (n : ℕ) (d : Key) : ℕ → Type 0 where
-  right : Bears s n d → InRange s n d → Deserves s n d 0
-  wrong_key : (Bears s n d → ⊥) → Deserves s n d 5
-  wrong_value : Bears s n d → (InRange s n d → ⊥) → Deserves s n d 6
+pub data Deserves (s : List ℕ) (n : ℕ) (d : Key) : Result Unit Fault → Type 0 where
+  right : Bears s n d → InRange s n d → Deserves s n d (Ok tt)
+  wrong_key : (Bears s n d → ⊥) → Deserves s n d (Err WrongKey)
+  wrong_value : Bears s n d → (InRange s n d → ⊥) → Deserves s n d (Err WrongValue)
 
 -- whole records, one at least
 pub record Whole (s : List ℕ) : Type 0 where
@@ -65,11 +68,11 @@ pub record IsCosts (s : List ℕ) (b : Board) : Type 0 where
   pub right : RightBelow s b (count_of b.tasks b.cores)
 
 -- what the first record is to say of the board, each of refusals 1 to 3 under its condition
-pub data Opens (s : List ℕ) : Reading → Type 0 where
-  board : Whole s → Headed s → Ranged (board_of s) → Opens s (accepted (board_of s))
-  length_wrong : (Whole s → ⊥) → Opens s (refused 1 0)
-  head_wrong : Whole s → (Headed s → ⊥) → Opens s (refused 2 0)
-  board_wrong : Whole s → Headed s → (Ranged (board_of s) → ⊥) → Opens s (refused 3 0)
+pub data Opens (s : List ℕ) : Result Board Refusal → Type 0 where
+  board : Whole s → Headed s → Ranged (board_of s) → Opens s (Ok (board_of s))
+  length_wrong : (Whole s → ⊥) → Opens s (Err NotWhole)
+  head_wrong : Whole s → (Headed s → ⊥) → Opens s (Err NoBoard)
+  board_wrong : Whole s → Headed s → (Ranged (board_of s) → ⊥) → Opens s (Err BoardRange)
 
 -- s passes what is tested before the walk over its records
 pub record Framed (s : List ℕ) : Type 0 where
@@ -79,13 +82,13 @@ pub record Framed (s : List ℕ) : Type 0 where
   pub long : Long s (board_of s)
 
 -- what reading s is to find, each refusal under its condition and with its place
-pub data Finds (s : List ℕ) : Reading → Type 0 where
-  costs : (b : Board) → IsCosts s b → Finds s (accepted b)
-  length_wrong : (Whole s → ⊥) → Finds s (refused 1 0)
-  head_wrong : Whole s → (Headed s → ⊥) → Finds s (refused 2 0)
-  board_wrong : Whole s → Headed s → (Ranged (board_of s) → ⊥) → Finds s (refused 3 0)
-  count_wrong : Whole s → Headed s → Ranged (board_of s) → (Long s (board_of s) → ⊥) → Finds s (refused 4 0)
+pub data Finds (s : List ℕ) : Result Board Refusal → Type 0 where
+  costs : (b : Board) → IsCosts s b → Finds s (Ok b)
+  length_wrong : (Whole s → ⊥) → Finds s (Err NotWhole)
+  head_wrong : Whole s → (Headed s → ⊥) → Finds s (Err NoBoard)
+  board_wrong : Whole s → Headed s → (Ranged (board_of s) → ⊥) → Finds s (Err BoardRange)
+  count_wrong : Whole s → Headed s → Ranged (board_of s) → (Long s (board_of s) → ⊥) → Finds s (Err WrongLength)
   key_wrong : (n : ℕ) → Framed s → 1 ≤ n → n < count_of (board_of s).tasks (board_of s).cores → RightBelow s (board_of s) n
-      → (Bears s n (due_at (board_of s) n) → ⊥) → Finds s (refused 5 (n + 1))
+      → (Bears s n (due_at (board_of s) n) → ⊥) → Finds s (Err (Faulty WrongKey (n + 1)))
   value_wrong : (n : ℕ) → Framed s → 1 ≤ n → n < count_of (board_of s).tasks (board_of s).cores → RightBelow s (board_of s) n
-      → Bears s n (due_at (board_of s) n) → (InRange s n (due_at (board_of s) n) → ⊥) → Finds s (refused 6 (n + 1))
+      → Bears s n (due_at (board_of s) n) → (InRange s n (due_at (board_of s) n) → ⊥) → Finds s (Err (Faulty WrongValue (n + 1)))

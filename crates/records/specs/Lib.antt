@@ -1,4 +1,5 @@
 pub mod Costs
 pub mod Filled
 pub mod Format
+pub mod Refusals
 pub mod Runs

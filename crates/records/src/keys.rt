@@ -2,7 +2,7 @@
 ghost use Rattle.std.specs.Prelude.{◌≡◌};
 ghost use Rattle.records.specs.Costs.{task_meets, key_meets, value_meets, fault_at, count_of};
 
-use crate::Key;
+use crate::{Fault, Key};
 use fields::{byte_at, value_at, wide};
 
 // The most that a value of any kind may be, in KiB or ticks.
@@ -77,13 +77,16 @@ fn value_meets(costs: &[u8], n: u32, key: Key) -> bool
     limit <= wide(MOST_CORES)
 }
 
-// The refusal that record n deserves where the key is due: 5, 6 or, for none, 0.
-pub fn fault(costs: &[u8], n: u32, key: Key) -> u32
+// What is wrong in record n where the key is due; in one record the key goes first.
+pub fn fault(costs: &[u8], n: u32, key: Key) -> Result<(), Fault>
     ensures { result ≡ fault_at costs.now n key }
 {
-    if key_meets(costs, n, key) {
-        if value_meets(costs, n, key) { 0 } else { 6 }
+    if !key_meets(costs, n, key) {
+        return Err(Fault::WrongKey);
+    }
+    if value_meets(costs, n, key) {
+        Ok(())
     } else {
-        5
+        Err(Fault::WrongValue)
     }
 }

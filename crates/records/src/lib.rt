@@ -4,15 +4,21 @@
 // A task's core limit (document 02, M-100) is byte b of its record, what handing out to copies costs (M-106) the task byte of the first.
 //
 // `read` says whether a byte string is a board's costs, or which of refusals 1 to 6 is due; `read_board` asks the length and the
-// first record only, refusals 1 to 3. No public function has a `requires`: each answers for every slice and every number.
+// first record only, refusals 1 to 3, `read_tasks` the tasks' records, 5 and 6. No public function has a `requires`: each answers for
+// every slice and every number.
 #![tactic(auto)]
 
+ghost use Rattle.std.specs.Prelude.{◌≡◌};
+ghost use Rattle.records.specs.Filled.{filled_of};
+
 mod keys;
+mod refusal;
 mod runs;
 mod scan;
 
 pub use keys::{MOST_CORES, MOST_VALUE, count, fault};
-pub use scan::{MOST_TASKS, read, read_board};
+pub use refusal::{Fault, Refusal};
+pub use scan::{MOST_TASKS, read, read_board, read_tasks};
 
 // The board of document 01: its k tasks, its P cores and the capacity of a core in KiB.
 #[derive(Clone, Copy)]
@@ -22,24 +28,8 @@ pub struct Board {
     pub capacity: u32,
 }
 
-// What reading finds: number 0 and the board, or the number of a refusal with its place and a board of zeros.
-#[derive(Clone, Copy)]
-pub struct Reading {
-    pub number: u32,
-    pub place: u32,
-    pub board: Board,
-}
-
-// A refusal's number and place, or 0 and 0 for none.
-#[derive(Clone, Copy)]
-pub struct Refusal {
-    pub number: u32,
-    pub place: u32,
-}
-
-// What a service that only fills an output answers (document 01, "Three services"): how many bytes or entries it has filled in, or a
-// refusal's number and place, with count 0. For a reach (document 02, M-102) the count is the reach, for a
-// single-block time (M-104) the time.
+// What a service that only fills an output answers the C interface: how many bytes or entries it has filled in, or a refusal's number
+// and place, with count 0. For a reach (document 02, M-102) the count is the reach, for a single-block time (M-104) the time.
 #[repr(C)]
 #[derive(Clone, Copy)]
 pub struct Filled {
@@ -48,7 +38,27 @@ pub struct Filled {
     pub count: u32,
 }
 
-// What the first four bytes of a record are to be.
+impl From<Result<u32, Refusal>> for Filled {
+    ghost from_gives = { λ answer filled. filled ≡ filled_of answer };
+
+    fn from(answer: Result<u32, Refusal>) -> Filled {
+        match answer {
+            Ok(count) => Filled {
+                refusal: 0,
+                place: 0,
+                count,
+            },
+            Err(refusal) => Filled {
+                refusal: refusal.number(),
+                place: refusal.place(),
+                count: 0,
+            },
+        }
+    }
+}
+
+// What the first four bytes of a record are to be. The kind is a number, and no enum, since `fault` and the laws' test answer for a key of any kind,
+// and it is compared with whatever byte the record has.
 #[derive(Clone, Copy)]
 pub struct Key {
     pub kind: u32,

@@ -1,6 +1,6 @@
 -- The choice, the smaller of two, and the least over a range: what bounds it, where it is attained, and where a loop for it may
 -- start and stop. By induction on the range.
-use Prim.Native.Nat.{ℕ, zero, suc, ◌+◌, ◌≤◌, ◌<◌}
+use Prim.Native.Nat.{ℕ, zero, suc, ◌+◌, ◌≤◌, ◌<◌, min}
 use native.Mathlib.Omega.{arith}
 use native.Mathlib.Numerals.{add-one}
 use native.Mathlib.Nat.{le_of_suc-le-suc, not-suc-le-zero, le_refl, le_antisymm, eq-or-lt_of_le}
@@ -67,6 +67,10 @@ lesser_low a b h = pick_yes (leb a b) a b (le→leb a b h)
 pub lesser_high : (a b : ℕ) → b < a → lesser a b ≡ b
 unfolding lesser
 lesser_high a b h = pick_no (leb a b) a b (lt→nleb a b h)
+
+-- it is what std calls `min`
+pub lesser_min : (a b : ℕ) → min a b ≡ lesser a b
+lesser_min a b = elim (lesser_is a b) [ inl e ↦ omega (arith, e, (lesser_le a b).1) | inr e ↦ omega (arith, e, (lesser_le a b).0) ]
 
 pub lesser_no_more : (a b : ℕ) → b ≤ a → lesser a b ≡ b
 lesser_no_more a b h = elim (eq-or-lt_of_le h) [ inl e ↦ lesser_low a b (omega arith) ∙ sym e | inr l ↦ lesser_high a b l ]

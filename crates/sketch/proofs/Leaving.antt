@@ -12,22 +12,18 @@ use Rattle.sketch.specs.Slacks.{slack_at, Slacked}
 slack_first : (w : List ℕ) (b q : ℕ) → get_or w (slack_at 0 q b) 0 ≡ get_or w (q * 33 + b) 0
 slack_first w b q = ap (λ (i : ℕ). get_or w i 0) (omega arith)
 
--- a word of it that is not 0, with so many cores, is a slack
-pub slack_some : (w : List ℕ) (b q : ℕ) {x : ℕ} → 1 ≤ q → q ≤ b → x ≡ get_or w (q * 33 + b) 0 → 0 < x → Slacked w b
-slack_some w b q some most e left = record { q = q; one_core = some; cores_most = most; left = omega (arith, left, e, slack_first w b q) }
-
--- no first module of at most q cores leaves one with b cores in all
+-- no first module of fewer than q cores leaves one with b cores in all
 abbrev pub Bare : List ℕ → (b q : ℕ) → Type 0
-Bare w b q = (i : ℕ) → 1 ≤ i → i ≤ q → get_or w (i * 33 + b) 0 ≤ 0
+Bare w b q = (i : ℕ) → 1 ≤ i → i < q → get_or w (i * 33 + b) 0 ≤ 0
 
--- nor one of q + 1 cores
-pub bare_more : (w : List ℕ) (b q : ℕ) {x : ℕ} → Bare w b q → x ≡ get_or w ((q + 1) * 33 + b) 0 → x ≤ 0 → Bare w b (q + 1)
+-- nor one of q cores
+pub bare_more : (w : List ℕ) (b q : ℕ) {x : ℕ} → Bare w b q → x ≡ get_or w (q * 33 + b) 0 → x ≤ 0 → Bare w b (q + 1)
 bare_more w b q {x} bare e none i a h = ⊎_elim
-    (λ (l : i < q + 1). bare i a (omega arith))
-    (λ (l : q + 1 ≤ i). let d : i ≡ q + 1 = omega arith in rw d (omega (arith, e, none)))
-    (lt_or_le i (q + 1))
+    (λ (l : i < q). bare i a l)
+    (λ (l : q ≤ i). let d : i ≡ q = omega arith in rw d (omega (arith, e, none)))
+    (lt_or_le i q)
 
 -- none at all does
-pub bare_slackless : (w : List ℕ) (b q : ℕ) → b ≤ q → Bare w b q → Slacked w b → ⊥
+pub bare_slackless : (w : List ℕ) (b q : ℕ) → b < q → Bare w b q → Slacked w b → ⊥
 bare_slackless w b q h bare s =
     omega (arith, s.left, slack_first w b s.q, bare s.q s.one_core (omega (arith, s.cores_most)))

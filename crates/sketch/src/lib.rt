@@ -16,10 +16,10 @@ pub const SQUARE: usize = 1089;
 
 pub const SIDE: usize = 33;
 
-// A threshold that some plan is within, guess::TOP + 1 where none was read off; and the fewest cores with which the table has a plan, a hint
-// for the next guess of which nothing is promised.
+// A threshold that some plan is within, where one was read off; and the fewest cores with which the table has a plan, a hint for the next
+// guess of which nothing is promised.
 #[derive(Clone, Copy)]
 pub struct Found {
-    pub threshold: u64,
+    pub threshold: Option<u64>,
     pub cores: u8,
 }

@@ -8,19 +8,14 @@ use crate::SIDE;
 pub fn word_at(work: &[u32], i: usize) -> u32
     ensures { result ≡ get_or work.now i 0 }
 {
-    if i < work.len() {
-        return work[i];
-    }
-    0
+    work.get(i).copied().unwrap_or(0)
 }
 
 // Whether some first module leaves a slack with b cores in all.
 pub fn has_slack(work: &[u32], b: u8) -> bool
     ensures { (result ≡ true → Slacked work.now b) × (result ≡ false → Slacked work.now b → ⊥) }
 {
-    let mut q: u8 = 0;
-    while q < b {
-        q += 1;
+    for q in 1..=b {
         if 0 < word_at(work, (q as usize) * SIDE + (b as usize)) {
             return true;
         }
@@ -32,26 +27,22 @@ pub fn has_slack(work: &[u32], b: u8) -> bool
 pub(crate) fn fewest(work: &[u32], cores: u8) -> u8
     ensures { result ≤ cores }
 {
-    let mut b: u8 = 0;
-    while b < cores {
+    for b in 0..cores {
         if has_slack(work, b) {
             return b;
         }
-        b += 1;
     }
-    b
+    cores
 }
 
 // The cores of a first module that leaves a slack with b cores in all, b where none of fewer does.
 pub(crate) fn first_cores(work: &[u32], b: u8) -> u8
     ensures { result ≤ b }
 {
-    let mut q: u8 = 0;
-    while q < b {
+    for q in 0..b {
         if 0 < word_at(work, (q as usize) * SIDE + (b as usize)) {
             return q;
         }
-        q += 1;
     }
-    q
+    b
 }

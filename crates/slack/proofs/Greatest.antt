@@ -1,6 +1,6 @@
 -- The greater of two, and the greatest over a range: what bounds it, where it is attained, and what a loop for it keeps. By
 -- induction on the range.
-use Prim.Native.Nat.{ℕ, zero, suc, ◌+◌, ◌≤◌, ◌<◌}
+use Prim.Native.Nat.{ℕ, zero, suc, ◌+◌, ◌≤◌, ◌<◌, max}
 use native.Mathlib.Omega.{arith}
 use native.Mathlib.Numerals.{add-one}
 use native.Mathlib.Nat.{le_of_suc-le-suc, not-suc-le-zero, le_refl, le_trans, le_antisymm, eq-or-lt_of_le}
@@ -57,6 +57,10 @@ larger_high a b h = pick_yes (leb a b) b a (le→leb a b h)
 pub larger_low : (a b : ℕ) → b < a → larger a b ≡ a
 unfolding larger
 larger_low a b h = pick_no (leb a b) b a (lt→nleb a b h)
+
+-- it is what std calls `max`
+pub larger_max : (a b : ℕ) → max a b ≡ larger a b
+larger_max a b = elim (larger_is a b) [ inl e ↦ omega (arith, e, (larger_ge a b).1) | inr e ↦ omega (arith, e, (larger_ge a b).0) ]
 
 pub larger_zero : (a : ℕ) → larger a 0 ≡ a
 larger_zero a = let u = larger_ge a 0 in elim (larger_is a 0) [ inl e ↦ e | inr e ↦ omega arith ]

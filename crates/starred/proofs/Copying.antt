@@ -10,7 +10,7 @@ use Rattle.lookups.specs.Lookups.{within, has_next, cell_of, hand_out_of, execut
 use Rattle.modules.specs.Model.{Chain, chain_of, run, gather, body, transfer, handed, response, passage}
 use Rattle.layout.specs.Layout.{count_from, module_count, modules_from, modules_of}
 use Rattle.figures.specs.Model.{cores_of, slower_of, slowest_from, bottleneck, block_time}
-use Rattle.figures.specs.Plan.{figures_of}
+use Rattle.figures.specs.Plan.{figures_of, filled_in}
 use Rattle.search.specs.Least.{pick}
 use Rattle.search.specs.Copies.{enough, fewest}
 use Rattle.starred.specs.Dock.{small_dock, copying_dock}
@@ -41,9 +41,9 @@ copies_enough = (refl, refl, refl)
 
 -- of plans: D before the division, for each module with copies
 copying_plans :
-    (figures_of copying (modules_of (one 1 2 2 2) 2) ≡ figures 1 4 1 28 2)
-    × (figures_of copying (modules_of (one 1 2 1 4) 2) ≡ figures 1 4 1 11 1)
-    × (figures_of copying (modules_of (two 1 1 2 1 2 2 1 2) 2) ≡ figures 2 4 1 24 2)
+    (filled_in (figures_of copying (modules_of (one 1 2 2 2) 2)) ≡ figures 1 4 1 28 2)
+    × (filled_in (figures_of copying (modules_of (one 1 2 1 4) 2)) ≡ figures 1 4 1 11 1)
+    × (filled_in (figures_of copying (modules_of (two 1 1 2 1 2 2 1 2) 2)) ≡ figures 2 4 1 24 2)
     × (block_time copying (modules_of (one 1 2 2 2) 2) ≡ 28)
     × (block_time copying (modules_of (one 1 2 1 4) 2) ≡ 11)
     × (block_time copying (modules_of (two 1 1 2 1 2 2 1 2) 2) ≡ 34)

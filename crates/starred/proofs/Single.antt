@@ -6,8 +6,9 @@ use mathlib.Core.Bool.{true, false}
 use mathlib.Core.List.{List, [], ◌∷◌, ◌++◌, map}
 use lib.ListN.{length, get_or, replicate, set}
 use lib.Dec.{eqb}
+use Rattle.std.specs.Prelude.{Ok}
 use Rattle.records.specs.declared.Board.{Board}
-use Rattle.records.specs.Costs.{each_from, join_from, due_keys, count_of, accepted, task_meets, key_meets, value_meets, fault_at, first_fault, length_meets, head_meets, board_meets, read_records, read_head, read_board, read_costs}
+use Rattle.records.specs.Costs.{each_from, join_from, due_keys, count_of, task_meets, key_meets, value_meets, fault_at, first_fault, length_meets, head_meets, board_meets, read_records, read_head, read_board, read_costs}
 use Rattle.rounding.specs.Rounding.{rounded_up}
 use Rattle.fields.specs.Fields.{value_at}
 use Rattle.lookups.specs.Lookups.{within, has_next, cell_of, hand_out_of, need_of, replicable_of, limit_of, execution_of, internal_of, pair_place, pair_of, external_of}
@@ -16,7 +17,7 @@ use Rattle.modules.specs.Model.{Chain, chain_of, run, gather, body, transfer, ha
 use Rattle.modules.specs.Rules.{share, shares, memory_fits, tighter, limit_from, module_limit, allows, within_limit, fewest_from, fewest_cores}
 use Rattle.layout.specs.Layout.{record_of, count_from, module_count, modules_from, modules_of, put_module}
 use Rattle.figures.specs.Model.{responses, cores_of, slower_of, slowest_from, bottleneck, block_time}
-use Rattle.figures.specs.Plan.{figures_of, response_at}
+use Rattle.figures.specs.Plan.{figures_of, filled_in, response_at}
 use Rattle.starred.specs.Dock.{small_dock, fixed_dock, copying_dock}
 use Rattle.starred.specs.Cases.{figures, one, two}
 
@@ -43,14 +44,14 @@ smallest = 1 ∷ 0 ∷ 1 ∷ 1 ∷ 7 ∷ 0 ∷ 0 ∷ 0 ∷ 2 ∷ 1 ∷ 0 ∷ 0 �
 -- what is read of accepted files: with the greatest capacity, need and cost, with a task that is not replicable, with a D (M-106), and of
 -- the smallest
 readings :
-    (read_costs small_dock ≡ accepted (board 4 100))
-    × (read_costs (million 4) ≡ accepted (board 4 1000000))
-    × (read_costs (million 12) ≡ accepted (board 4 100))
-    × (read_costs (million 244) ≡ accepted (board 4 100))
-    × (read_costs fixed_dock ≡ accepted (board 4 100))
-    × (read_costs (copying_dock 1) ≡ accepted (board 4 100))
-    × (read_costs (copying_dock 255) ≡ accepted (board 4 100))
-    × (read_costs smallest ≡ accepted (record { tasks = 1; cores = 1; capacity = 7 }))
+    (read_costs small_dock ≡ Ok (board 4 100))
+    × (read_costs (million 4) ≡ Ok (board 4 1000000))
+    × (read_costs (million 12) ≡ Ok (board 4 100))
+    × (read_costs (million 244) ≡ Ok (board 4 100))
+    × (read_costs fixed_dock ≡ Ok (board 4 100))
+    × (read_costs (copying_dock 1) ≡ Ok (board 4 100))
+    × (read_costs (copying_dock 255) ≡ Ok (board 4 100))
+    × (read_costs smallest ≡ Ok (record { tasks = 1; cores = 1; capacity = 7 }))
 unfolding value_at each_from join_from due_keys count_of task_meets key_meets value_meets fault_at first_fault length_meets head_meets board_meets read_head read_board read_records read_costs small_dock fixed_dock copying_dock
 readings = (refl, refl, refl, refl, refl, refl, refl, refl)
 
@@ -178,12 +179,12 @@ between = (refl, refl, refl, refl, refl, refl, refl, refl, refl)
 
 -- the third and the fourth break a rule, the last has a record behind its one module
 plans :
-    (figures_of dock (modules_of (one 1 2 2 2) 2) ≡ figures 1 4 1 18 2)
-    × (figures_of dock (modules_of (two 1 1 2 1 2 2 1 2) 2) ≡ figures 2 4 2 12 1)
-    × (figures_of dock (modules_of (one 1 2 1 1) 2) ≡ figures 1 1 1 33 1)
-    × (figures_of dock (modules_of (two 1 1 2 1 2 2 1 3) 2) ≡ figures 2 5 2 10 1)
-    × (figures_of dock (modules_of (two 1 2 2 2 2 2 1 1) 2) ≡ figures 1 4 1 18 2)
-    × (figures_of dock (modules_of (one 1 2 2 2 ++ replicate 12 255) 2) ≡ figures 1 4 1 18 2)
+    (filled_in (figures_of dock (modules_of (one 1 2 2 2) 2)) ≡ figures 1 4 1 18 2)
+    × (filled_in (figures_of dock (modules_of (two 1 1 2 1 2 2 1 2) 2)) ≡ figures 2 4 2 12 1)
+    × (filled_in (figures_of dock (modules_of (one 1 2 1 1) 2)) ≡ figures 1 1 1 33 1)
+    × (filled_in (figures_of dock (modules_of (two 1 1 2 1 2 2 1 3) 2)) ≡ figures 2 5 2 10 1)
+    × (filled_in (figures_of dock (modules_of (two 1 2 2 2 2 2 1 1) 2)) ≡ figures 1 4 1 18 2)
+    × (filled_in (figures_of dock (modules_of (one 1 2 2 2 ++ replicate 12 255) 2)) ≡ figures 1 4 1 18 2)
 unfolding hand_out_of value_at within has_next cell_of execution_of internal_of pair_place pair_of external_of run gather body transfer handed response count_from module_count modules_from modules_of cores_of slower_of slowest_from bottleneck figures_of small_dock
 plans = (refl, refl, refl, refl, refl, refl)
 

@@ -2,8 +2,8 @@
 -- bytes, what else the service is given, and what the document says that comes of it: the answer and, where a plan is filled in, its bytes.
 -- Where M-103 gives another figure than document 01, it stands in its place. Assumes nothing.
 use Rattle.std.specs.Prelude.{ℕ, ◌≡◌, List, [], ◌∷◌, replicate}
-use Rattle.figures.specs.declared.Answer.{Answer}
-use Rattle.figures.specs.Plan.{refusal}
+use Rattle.figures.specs.declared.answer.Answer.{Answer}
+use Rattle.figures.specs.Plan.{answer_of, refusal}
 use Rattle.judge.specs.Judge.{judged}
 use Rattle.greedy.specs.Greedy.{greedy_answer, greedy_bytes}
 use Rattle.planners.specs.Best.{work_words, best_answer, best_bytes}
@@ -41,9 +41,9 @@ pub data Case : Type 0 where
 
 -- the definitions that the services' promises cite say so
 abbrev pub Holds : Case → Type 0
-Holds (best s a w) = (best_answer s lent words ≡ a) × (best_bytes s lent words ≡ w)
-Holds (bench s g a w) = (greedy_answer s g lent ≡ a) × (greedy_bytes s g lent ≡ w)
-Holds (judge s w a) = judged s w ≡ a
+Holds (best s a w) = (answer_of (best_answer s lent words) ≡ a) × (best_bytes s lent words ≡ w)
+Holds (bench s g a w) = (answer_of (greedy_answer s g lent) ≡ a) × (greedy_bytes s g lent ≡ w)
+Holds (judge s w a) = answer_of (judged s w) ≡ a
 
 -- each case of a list holds
 abbrev pub Each : List Case → Type 0

@@ -113,15 +113,6 @@ pub record Ended (c : Chain) (n : ℕ) (w₀ w : List ℕ) (l q : ℕ) : Type 0 
   pub left : (t p b : ℕ) → t < c.tasks → q ≤ p → p ≤ b → b ≤ c.board → get_or w (slack_at t p b) 0 ≡ after_on c n l t p b
 
 module _ (c : Chain) (n : ℕ) (low : n ≤ top_threshold) (few : c.tasks ≤ 12) (board : c.board ≤ 32) (w₀ : List ℕ) (l : ℕ) (some : 1 ≤ l) (inside : l ≤ c.tasks) where
-  pub ended_none : Laid c w₀ → FilledAfter c n w₀ l → Ended c n w₀ w₀ l 1
-  ended_none laid filled = record {
-    long = refl;
-    laid = laid;
-    later = λ j h. refl;
-    done = λ t p b h g u. absurd (omega arith);
-    left = λ t p b h u v x. filled t p b h u v x;
-  }
-
   -- rests that start after l or later know no module that ends with l
   rest_same : (t p b : ℕ) → l ≤ t → 1 ≤ p → b ≤ c.board → after_on c n l t p b ≡ after_on c n (l - 1) t p b
   rest_same t p b h u v = after_slack c n low l t p b h u (omega arith) ∙ sym (after_slack c n low (l - 1) t p b (omega arith) u (omega arith))

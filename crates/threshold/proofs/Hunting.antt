@@ -1,14 +1,13 @@
 -- The search for the least threshold in its steps: what a try at one threshold says, how it narrows the bracket, and when a bracket is
 -- decided. By the slack table, which decides whether some plan is within a threshold. Assumes nothing.
-use mathlib.Core.Path.{◌≡◌, refl, sym, ap, subst, ◌∙◌}
-use mathlib.Core.Bool.{Bool, cond}
+use mathlib.Core.Path.{◌≡◌, refl, sym, subst}
 use mathlib.Core.List.{List}
 use mathlib.Core.Logic.{inl, inr, ⊎_elim}
-use Prim.Native.Nat.{ℕ, zero, suc, ◌+◌, ◌-◌, ◌*◌, ◌/◌, ◌≤◌, ◌<◌}
+use Prim.Native.Nat.{ℕ, zero, suc, min, ◌+◌, ◌-◌, ◌*◌, ◌/◌, ◌≤◌, ◌<◌}
 use native.Mathlib.Omega.{arith}
 use lib.ListN.{length}
-use lib.Dec.{leb}
-use borrow.Author.Tests.{le-leb, lt-leb}
+use Rattle.std.specs.Prelude.{IfSome}
+use Rattle.std.proofs.Common.{Option, None, Some, unwrap_or}
 use Rattle.records.specs.declared.Board.{Board}
 use Rattle.records.proofs.Cases.{lt_or_le}
 use Rattle.modules.specs.Model.{Chain}
@@ -89,14 +88,18 @@ module _ (c : Chain) where
     some_plan = λ k. within;
   }
 
+  -- n stands for a judged plan's threshold where there is none
+  pub own_within : (n : ℕ) (own : Option ℕ) → SomeWithin c n → IfSome own (SomeWithin c) → SomeWithin c (unwrap_or own n)
+  own_within n None within judged = within
+  own_within n (Some m) within judged = judged
+
   -- the lesser of n and a judged plan's own threshold has a plan too
-  pub lesser_within : {hi : ℕ} (n own : ℕ) → n ≤ top_threshold → SomeWithin c n → (own ≤ top_threshold → SomeWithin c own) → hi ≡ cond (leb own n) own n
+  pub lesser_within : {hi : ℕ} (n own : ℕ) → SomeWithin c n → SomeWithin c own → hi ≡ min n own
       → (hi ≤ n) × SomeWithin c hi
-  lesser_within {hi} n own h within judged e = ⊎_elim
-      (λ k. let d : hi ≡ n = e ∙ ap (λ (t : Bool). cond t own n) (lt-leb own n k) in (omega arith, subst (SomeWithin c) (sym d) within))
-      (λ k.
-      let d : hi ≡ own = e ∙ ap (λ (t : Bool). cond t own n) (le-leb own n k) in
-      (omega arith, subst (SomeWithin c) (sym d) (judged (omega arith))))
+  lesser_within {hi} n own within judged e = ⊎_elim
+      (λ k. let d : hi ≡ n = omega arith in (omega arith, subst (SomeWithin c) (sym d) within))
+      (λ k. let d : hi ≡ own = omega arith in
+      (omega arith, subst (SomeWithin c) (sym d) judged))
       (lt_or_le n own)
 
   -- ---- one try
@@ -107,10 +110,10 @@ module _ (c : Chain) where
     tried_missed nothing (lo, hi) = record { bracket = bracket_missed n below b nothing lo hi; moved = inr (lo, hi) }
 
     -- with one
-    pub tried_found : (own : ℕ) → SomeWithin c n → (own ≤ top_threshold → SomeWithin c own)
-        → (h'.lo ≡ h.lo) × (h'.hi ≡ cond (leb own n) own n) → Tried c n h h'
+    pub tried_found : (own : ℕ) → SomeWithin c n → SomeWithin c own
+        → (h'.lo ≡ h.lo) × (h'.hi ≡ min n own) → Tried c n h h'
     tried_found own within judged (lo, hi) =
-        let x = lesser_within n own (omega (arith, b.high)) within judged hi in
+        let x = lesser_within n own within judged hi in
         record { bracket = bracket_found n below b lo x.0 x.1; moved = inl (lo, x.0) }
 
   -- ---- tries that halve
@@ -143,10 +146,15 @@ module _ (c : Chain) where
 -- ---- the whole search
 
 -- words without room are refused, and come back as they were
-pub searched_refused : (c : Chain) (b : Board) (w : List ℕ) {r : ℕ} → (Area b w → ⊥) → r ≡ top_threshold + 1 → Searched c b w w r
-searched_refused c b w out e = record { long = refl; roomy = λ h. absurd (omega arith); decided = λ a. absurd (out a); refused = λ x. (e, refl); kept = λ j h. refl }
+pub searched_refused : (c : Chain) (b : Board) (w : List ℕ) → (Area b w → ⊥) → Searched c b w w None
+searched_refused c b w out = record { long = refl; answered = λ a. absurd (out a); laid = λ a. absurd (out a); refused = λ x. (refl, refl); kept = λ j h. refl }
 
 -- words with room are answered, and hold what is laid and the slack table of the answer, and behind the tables what they held
-pub searched_decided : (c : Chain) (b : Board) (w : List ℕ) {w' : List ℕ} {r : ℕ} → Area b w → Decided c r → length w' ≡ length w → Laid c w'
-    → (r ≤ top_threshold → AllFilled c r w') → KeptBeyond w w' → Searched c b w w' r
-searched_decided c b w room d long laid filled kept = record { long = long; roomy = λ h. room; decided = λ a. (d, laid, filled); refused = λ x. absurd (x room); kept = kept }
+module _ (c : Chain) (b : Board) (w : List ℕ) {w' : List ℕ} {r : ℕ} (room : Area b w) (decided : Decided c r) (long : length w' ≡ length w) (laid : Laid c w') (kept : KeptBeyond w w') where
+  pub searched_none : top_threshold < r → Searched c b w w' None
+  searched_none h =
+      let e : r ≡ top_threshold + 1 = omega (arith, decided.high) in
+      record { long = long; answered = λ a. subst (Decided c) e decided; laid = λ a. laid; refused = λ x. absurd (x room); kept = kept }
+
+  pub searched_some : r ≤ top_threshold → AllFilled c r w' → Searched c b w w' (Some r)
+  searched_some h filled = record { long = long; answered = (room, h, decided, filled); laid = λ a. laid; refused = λ x. absurd (x room); kept = kept }

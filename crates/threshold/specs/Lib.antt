@@ -1,2 +1,3 @@
+pub mod Docks
 pub mod Threshold
 pub mod Words

@@ -1,5 +1,5 @@
 -- The least threshold that some plan is within: what the service promises. Assumes nothing.
-use Rattle.std.specs.Prelude.{ℕ, zero, suc, ◌+◌, ◌*◌, ◌≤◌, ◌<◌, ◌≡◌, List, ◌⊎◌, length}
+use Rattle.std.specs.Prelude.{ℕ, zero, suc, ◌+◌, ◌*◌, ◌≤◌, ◌<◌, ◌≡◌, List, ◌⊎◌, Option, None, MatchOption, length}
 use Rattle.records.specs.declared.Board.{Board}
 use Rattle.modules.specs.Model.{Chain}
 use Rattle.slack.specs.Problem.{top_threshold, SomeWithin}
@@ -15,11 +15,11 @@ pub record Decided (c : Chain) (r : ℕ) : Type 0 where
 
 -- what is answered to a board and words, and what the words are afterwards: what is laid and the slack table of the answer, where some plan
 -- is within it; or as lent where the board is out of range or the words are too few; behind the tables as lent in each case
-pub record Searched (c : Chain) (b : Board) (w w' : List ℕ) (r : ℕ) : Type 0 where
+pub record Searched (c : Chain) (b : Board) (w w' : List ℕ) (r : Option ℕ) : Type 0 where
   pub long : length w' ≡ length w
-  pub roomy : r ≤ top_threshold → Area b w
-  pub decided : Area b w → Decided c r × Laid c w' × (r ≤ top_threshold → AllFilled c r w')
-  pub refused : (Area b w → ⊥) → (r ≡ top_threshold + 1) × (w' ≡ w)
+  pub answered : MatchOption r (Area b w → Decided c (top_threshold + 1)) (λ n. Area b w × (n ≤ top_threshold) × Decided c n × AllFilled c n w')
+  pub laid : Area b w → Laid c w'
+  pub refused : (Area b w → ⊥) → (r ≡ None) × (w' ≡ w)
   pub kept : KeptBeyond w w'
 
 -- ---- the search

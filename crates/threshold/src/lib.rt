@@ -8,6 +8,7 @@
 // specs/Threshold.antt.
 #![tactic(auto)]
 
+mod dock;
 mod fill;
 mod hunt;
 mod lay;

@@ -23,7 +23,7 @@ use Rattle.figures.proofs.Covering.{covers_head}
 use Rattle.judge.specs.Claims.{AllPass}
 use Rattle.timetable.specs.Stages.{Stage, stage_of, stages}
 use Rattle.timetable.specs.Timetable.{through_at, pass, throughs, last_of, end_of, single_test}
-use Rattle.timetable.proofs.Greater.{through_both, through_least}
+use Rattle.timetable.proofs.Through.{through_both, through_least}
 use Rattle.timetable.proofs.Rows.{zeros}
 
 -- the time of a block that waits nowhere

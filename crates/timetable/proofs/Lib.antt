@@ -1,5 +1,4 @@
 pub mod Bounds
-pub mod Greater
 pub mod Loading
 pub mod Only
 pub mod Rows
@@ -8,4 +7,5 @@ pub mod Serving
 pub mod Streamed
 pub mod Tabled
 pub mod Theorems
+pub mod Through
 pub mod Turns

@@ -12,7 +12,6 @@ use Rattle.records.proofs.Cases.{lt_or_le}
 use Rattle.timetable.specs.Machine.{Schedule, through, free, Keeps, Runs, Same, NoLater}
 use Rattle.timetable.specs.Stages.{Stage, stage_at}
 use Rattle.timetable.specs.Timetable.{throughs, starts, schedule_of}
-use Rattle.timetable.proofs.Greater.{greater_least, greater_both}
 use Rattle.timetable.proofs.Rows.{zeros}
 use Rattle.timetable.proofs.Scheduled.{through_sent, through_executed, free_later, row_step, row_last, schedule_keeps, schedule_runs}
 
@@ -24,9 +23,7 @@ module _ (ss : List Stage) (still : (i : ℕ) → i + 1 ≡ length ss → (stage
     late_sends : (i n : ℕ) → i + 1 < length ss → starts ss i (suc n) ≤ t.executes i (suc n) → get_or (throughs ss n) (i + 1) 0 ≤ free ss t (i + 1) (suc n)
         → (schedule_of ss).sends i (suc n) ≤ t.sends i (suc n)
     late_sends i n h a f =
-        greater_least (starts ss i (suc n) + (stage_at ss i).body) (get_or (throughs ss n) (i + 1) 0) (t.sends i (suc n))
-        (omega (arith, k.executing i (suc n) (omega arith) (omega arith), k.sender i (suc n) h (omega arith)))
-        (omega (arith, k.receiver i (suc n) h (omega arith)))
+        omega (arith, k.executing i (suc n) (omega arith) (omega arith), k.sender i (suc n) h (omega arith), k.receiver i (suc n) h (omega arith))
 
     late_starts : (n : ℕ) → ((i : ℕ) → i < length ss → get_or (throughs ss n) i 0 ≤ free ss t i (suc n)) → (i : ℕ) → i < length ss → starts ss i (suc n) ≤ t.executes i (suc n)
     late_starts n f zero h = omega (arith, f 0 h, k.takes (suc n) h (omega arith))
@@ -67,7 +64,6 @@ module _ (ss : List Stage) (still : (i : ℕ) → i + 1 ≡ length ss → (stage
     soon_sends : (i n : ℕ) → i + 1 < length ss → t.executes i (suc n) ≤ starts ss i (suc n) → free ss t (i + 1) (suc n) ≤ get_or (throughs ss n) (i + 1) 0
         → t.sends i (suc n) ≤ (schedule_of ss).sends i (suc n)
     soon_sends i n h a f =
-        let g = greater_both (starts ss i (suc n) + (stage_at ss i).body) (get_or (throughs ss n) (i + 1) 0) in
         ⊎_elim
         (λ e. omega (arith, r.keeps.executing i (suc n) (omega arith) (omega arith)))
         (λ e. omega arith)

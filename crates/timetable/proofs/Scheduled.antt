@@ -1,10 +1,10 @@
 -- The recurrence's schedule runs (document 02, M-105): it keeps the rules of the machine, and nothing in it starts later than it must.
 -- Assumes nothing.
-use Prim.Native.Nat.{ℕ, zero, suc, pred, ◌+◌, ◌-◌, ◌≤◌, ◌<◌}
+use Prim.Native.Nat.{ℕ, zero, suc, ◌+◌, ◌-◌, ◌≤◌, ◌<◌}
 use native.Mathlib.Nat.{not-suc-le-zero}
 use native.Mathlib.Numerals.{add-one}
 use native.Mathlib.Omega.{arith}
-use mathlib.Core.Path.{◌≡◌, refl, sym, ap, ◌∙◌}
+use mathlib.Core.Path.{◌≡◌, refl, sym, ◌∙◌}
 use mathlib.Core.List.{List}
 use mathlib.Core.Logic.{◌⊎◌, inl, inr, ⊎_elim}
 use lib.ListN.{get_or, length, get_or-eq_default}
@@ -12,8 +12,8 @@ use borrow.Author.Tests.{lt-leb, lt-ltb, le-ltb}
 use Rattle.records.proofs.Cases.{lt_or_le}
 use Rattle.timetable.specs.Machine.{Schedule, through, free, Keeps, Prompt, Runs}
 use Rattle.timetable.specs.Stages.{Stage, stage_at}
-use Rattle.timetable.specs.Timetable.{greater, through_at, throughs, starts, schedule_of}
-use Rattle.timetable.proofs.Greater.{greater_cases, greater_both, greater_zero}
+use Rattle.timetable.specs.Timetable.{through_at, throughs, starts, schedule_of}
+use Rattle.std.specs.Prelude.{max}
 use Rattle.timetable.proofs.Rows.{zeros, throughs_length, pass_first, pass_next}
 
 -- ---- when a module is through and free
@@ -36,7 +36,7 @@ module _ (ss : List Stage) (t : Schedule) (i : ℕ) where
 -- ---- the recurrence's schedule
 
 -- a module sends when it and the next are free, and is then through
-pub row_step : (ss : List Stage) (i n : ℕ) → i < length ss → get_or (throughs ss (suc n)) i 0 ≡ greater (starts ss i (suc n) + (stage_at ss i).body) (get_or (throughs ss n) (i + 1) 0) + (stage_at ss i).send
+pub row_step : (ss : List Stage) (i n : ℕ) → i < length ss → get_or (throughs ss (suc n)) i 0 ≡ max (starts ss i (suc n) + (stage_at ss i).body) (get_or (throughs ss n) (i + 1) 0) + (stage_at ss i).send
 unfolding throughs through_at
 row_step ss zero n h = pass_first (get_or (throughs ss n) 0 0) ss (throughs ss n) h
 row_step ss (suc i) n h =
@@ -53,8 +53,7 @@ module _ (ss : List Stage) (still : (i : ℕ) → i + 1 ≡ length ss → (stage
         arith,
         row_step ss i n (omega arith),
         still i e,
-        ap (greater (starts ss i (suc n) + (stage_at ss i).body)) (none_after ss (i + 1) n (omega arith)),
-        greater_zero (starts ss i (suc n) + (stage_at ss i).body),
+        none_after ss (i + 1) n (omega arith),
       )
 
   pub row_through : (i n : ℕ) → i < length ss → through ss (schedule_of ss) i (suc n) ≡ get_or (throughs ss (suc n)) i 0
@@ -74,7 +73,7 @@ module _ (ss : List Stage) (still : (i : ℕ) → i + 1 ≡ length ss → (stage
     sending = λ i n h l. sending i n h l;
     takes = λ n h l. takes n h l;
     receives = λ i n h l. rw (add-one i) (omega arith);
-    sender = λ i n h l. (greater_both (starts ss i n + (stage_at ss i).body) (get_or (throughs ss (pred n)) (i + 1) 0)).0;
+    sender = λ i n h l. omega arith;
     receiver = λ i n h l. receiver i n h l;
   }
     where
@@ -88,7 +87,7 @@ module _ (ss : List Stage) (still : (i : ℕ) → i + 1 ≡ length ss → (stage
 
       receiver : (i n : ℕ) → i + 1 < length ss → 1 ≤ n → free ss (schedule_of ss) (i + 1) n ≤ (schedule_of ss).sends i n
       receiver i zero h l = absurd (not-suc-le-zero l)
-      receiver i (suc n) h l = omega (arith, row_free (i + 1) n h, greater_both (starts ss i (suc n) + (stage_at ss i).body) (get_or (throughs ss n) (i + 1) 0))
+      receiver i (suc n) h l = omega (arith, row_free (i + 1) n h)
 
   schedule_prompt : Prompt ss (schedule_of ss)
   schedule_prompt = record {
@@ -103,10 +102,10 @@ module _ (ss : List Stage) (still : (i : ℕ) → i + 1 ≡ length ss → (stage
 
       begins : (i n : ℕ) → i + 1 < length ss → 1 ≤ n → ((schedule_of ss).sends i n ≤ (schedule_of ss).executed i n) ⊎ ((schedule_of ss).sends i n ≤ free ss (schedule_of ss) (i + 1) n)
       begins i zero h l = absurd (not-suc-le-zero l)
-      begins i (suc n) h l = elim (greater_cases (starts ss i (suc n) + (stage_at ss i).body) (get_or (throughs ss n) (i + 1) 0)) [
-        | inl e ↦ inl (omega arith)
-        | inr e ↦ inr (omega (arith, row_free (i + 1) n h))
-      ]
+      begins i (suc n) h l = ⊎_elim
+          (λ e. inr (omega (arith, row_free (i + 1) n h)))
+          (λ e. inl (omega arith))
+          (lt_or_le (starts ss i (suc n) + (stage_at ss i).body) (get_or (throughs ss n) (i + 1) 0))
 
   pub schedule_runs : Runs ss (schedule_of ss)
   schedule_runs = record { keeps = schedule_keeps; prompt = schedule_prompt }

@@ -10,17 +10,21 @@ use mathlib.Core.List.{List, [], ◌∷◌, Memᴰ}
 use mathlib.Core.Logic.{⊎_elim}
 use lib.ListN.{length, get_or}
 use borrow.Author.Tests.{le-ltb}
-use Rattle.records.specs.declared.Filled.{Filled}
-use Rattle.records.specs.Costs.{read_costs}
+use Rattle.std.specs.Prelude.{Result}
+use Rattle.records.specs.declared.refusal.Refusal.{Refusal}
+use Rattle.records.specs.Refusals.{number_in}
+use Rattle.records.specs.Filled.{count_in}
+use Rattle.records.specs.Costs.{board_in, read_costs}
+use Rattle.records.proofs.Refusing.{number_some}
 use Rattle.records.proofs.Laws.{accepted_costs}
 use Rattle.modules.specs.declared.Module.{Module}
 use Rattle.modules.specs.Model.{Chain}
-use Rattle.figures.specs.declared.Answer.{Answer}
+use Rattle.figures.specs.declared.PlanFigures.{PlanFigures}
 use Rattle.figures.specs.declared.Slowest.{Slowest}
 use Rattle.figures.specs.Model.{bottleneck, block_time}
 use Rattle.figures.specs.Rules.{covers}
 use Rattle.figures.specs.Claims.{loads, IsBottleneck, copied_of}
-use Rattle.figures.specs.Plan.{figures_of}
+use Rattle.figures.specs.Plan.{figures_of, answer_of}
 use Rattle.figures.proofs.Covering.{covers_head}
 use Rattle.figures.proofs.Kept.{keeps_parts}
 use Rattle.figures.proofs.Laws.{bottleneck_is, plan_bottleneck_one, plan_time_one}
@@ -99,20 +103,20 @@ bottlenecks (suc n) b l h g = let e : suc n - 1 ≡ n = omega arith in rw e (ome
 
 -- ---- by Judge's response and the time that is answered
 
-judged_response : (s w : List ℕ) (p : Passes s w) → (judged s w).response ≡ (bottleneck (chain s w) p.modules).response
+judged_response : (s w : List ℕ) (p : Passes s w) → (answer_of (judged s w)).response ≡ (bottleneck (chain s w) p.modules).response
 unfolding figures_of
-judged_response s w p = ap (λ (a : Answer). a.response) (passes_figures s w p)
+judged_response s w p = ap (λ (a : Result PlanFigures Refusal). (answer_of a).response) (passes_figures s w p)
 
-judged_copies : (s w : List ℕ) (p : Passes s w) → (judged s w).copies ≡ (bottleneck (chain s w) p.modules).copies
+judged_copies : (s w : List ℕ) (p : Passes s w) → (answer_of (judged s w)).copies ≡ (bottleneck (chain s w) p.modules).copies
 unfolding figures_of
-judged_copies s w p = ap (λ (a : Answer). a.copies) (passes_figures s w p)
+judged_copies s w p = ap (λ (a : Result PlanFigures Refusal). (answer_of a).copies) (passes_figures s w p)
 
 -- what a table holds, of each block
 module _ (s w : List ℕ) (n : ℕ) (table : List ℕ) where
-  pub tables_ends : (a : Filled) (after : List ℕ) → Tables s w n table a after → a.refusal ≡ 0 → (b : ℕ) → 1 ≤ b → b ≤ n
-      → (get_or after (b - 1) 0 ≡ (b - 1) * (judged s w).response + (block_time_answer s w).count) × ((judged s w).response ≤ (block_time_answer s w).count) × ((judged s w).response ≤ 23000000)
-      × ((block_time_answer s w).count ≤ 23000000)
-  tables_ends a after (refused x j f) e b l h = absurd (f e)
+  pub tables_ends : (a : Result ℕ Refusal) (after : List ℕ) → Tables s w n table a after → number_in a ≡ 0 → (b : ℕ) → 1 ≤ b → b ≤ n
+      → (get_or after (b - 1) 0 ≡ (b - 1) * (answer_of (judged s w)).response + count_in (block_time_answer s w)) × ((answer_of (judged s w)).response ≤ count_in (block_time_answer s w)) × ((answer_of (judged s w)).response ≤ 23000000)
+      × (count_in (block_time_answer s w) ≤ 23000000)
+  tables_ends a after (refused x j) e b l h = absurd (number_some x e)
   tables_ends a after (copied p i f) e b l h = absurd (omega arith)
   tables_ends a after (unasked p all f) e b l h = absurd (omega arith)
   tables_ends a after (filled p all asked t r k holds) e b l h =
@@ -122,12 +126,12 @@ module _ (s w : List ℕ) (n : ℕ) (table : List ℕ) where
       rw (holds.ends b l h, judged_response s w p, time_passed s w p) (
         stream_ends c p.modules some covered all r b l,
         bottleneck_alone c p.modules some covered all,
-        plan_bottleneck_one s (read_costs s).board (accepted_costs s p.readable.accepted) p.modules p.keeps (omega (arith, bottleneck_single c p.modules some covered all)),
-        plan_time_one s (read_costs s).board (accepted_costs s p.readable.accepted) p.modules p.keeps (single_copied p.modules all),
+        plan_bottleneck_one s (board_in (read_costs s)) (accepted_costs s p.readable.accepted) p.modules p.keeps (omega (arith, bottleneck_single c p.modules some covered all)),
+        plan_time_one s (board_in (read_costs s)) (accepted_costs s p.readable.accepted) p.modules p.keeps (single_copied p.modules all),
       )
 
-  pub tables_single : (a : Filled) (after : List ℕ) → Tables s w n table a after → a.refusal ≡ 0 → (judged s w).copies ≡ 1
-  tables_single a after (refused x j f) e = absurd (f e)
+  pub tables_single : (a : Result ℕ Refusal) (after : List ℕ) → Tables s w n table a after → number_in a ≡ 0 → (answer_of (judged s w)).copies ≡ 1
+  tables_single a after (refused x j) e = absurd (number_some x e)
   tables_single a after (copied p i f) e = absurd (omega arith)
   tables_single a after (unasked p all f) e = absurd (omega arith)
   tables_single a after (filled p all asked t r k holds) e =

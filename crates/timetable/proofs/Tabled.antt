@@ -9,9 +9,14 @@ use mathlib.Core.Logic.{⊎_elim}
 use lib.Dec.{eqb}
 use lib.ListN.{length, get_or, take, drop, get_or-append, take-append-drop}
 use lib.Seq.{ext_get_or, take_at, drop_at, length-take-le, length_front, get_or-take}
-use borrow.Author.Tests.{eqb-true, eqb-false, le-leb}
-use Rattle.records.specs.declared.Filled.{Filled}
-use Rattle.records.specs.Costs.{read_costs}
+use borrow.Author.Tests.{ne_eqb, eqb-true, eqb-false, le-leb}
+use Rattle.std.specs.Prelude.{Result, Ok, Err}
+use Rattle.records.specs.declared.refusal.Refusal.{Refusal}
+use Rattle.records.specs.Refusals.{number_in}
+use Rattle.records.specs.Filled.{count_in}
+use Rattle.records.proofs.Refusing.{refused_or_not, number_some}
+use Rattle.figures.specs.declared.PlanFigures.{PlanFigures}
+use Rattle.records.specs.Costs.{board_in, read_costs}
 use Rattle.records.proofs.Cases.{true_or_false, true_not_false, false_unless}
 use Rattle.records.proofs.Laws.{accepted_costs}
 use Rattle.modules.specs.declared.Module.{Module}
@@ -24,7 +29,7 @@ use Rattle.figures.proofs.Kept.{keeps_parts}
 use Rattle.judge.specs.Judge.{first_failing, judged}
 use Rattle.judge.specs.Claims.{AllPass, chain, plan, Passes}
 use Rattle.judge.proofs.Laws.{first_fails, none_fails}
-use Rattle.judge.proofs.Passing.{judge_finds, judge_only, number_passes, passes_number}
+use Rattle.judge.proofs.Passing.{judge_finds, judge_only, number_passes, passes_figures}
 use Rattle.judge.proofs.Timing.{plan_said}
 use Rattle.timetable.specs.Claims.{Asked, Holds, Tables, Tables.refused, Tables.copied, Tables.unasked, Tables.filled}
 use Rattle.timetable.specs.Machine.{Schedule, through, Runs}
@@ -123,7 +128,7 @@ module _ (c : Chain) (ms : List Module) (some : 1 ≤ length ms) {t : Schedule} 
 
 module _ (s w : List ℕ) where
   -- the modules that Judge passes are those of the records that are counted, and there is one
-  plan_counted : (p : Passes s w) → modules_from w 0 (module_count w (read_costs s).board.tasks) ≡ p.modules
+  plan_counted : (p : Passes s w) → modules_from w 0 (module_count w (board_in (read_costs s)).tasks) ≡ p.modules
   unfolding modules_of
   plan_counted p = plan_said s w p
 
@@ -135,7 +140,7 @@ module _ (s w : List ℕ) where
       some (m ∷ ms) e = omega arith
 
   -- the first module with copies, by what the code counts
-  none_copied : (p : Passes s w) → AllPass single_test p.modules → 0 ≡ first_failing single_test 1 (modules_from w 0 (module_count w (read_costs s).board.tasks))
+  none_copied : (p : Passes s w) → AllPass single_test p.modules → 0 ≡ first_failing single_test 1 (modules_from w 0 (module_count w (board_in (read_costs s)).tasks))
   none_copied p all = sym (ap (first_failing single_test 1) (plan_counted p) ∙ (none_fails single_test p.modules).1 all)
 
   module _ (n : ℕ) (table : List ℕ) where
@@ -145,22 +150,21 @@ module _ (s w : List ℕ) where
     test_asked : blocks_test n (length table) ≡ true → Asked n table
     test_asked e = let x = asked_parts n (length table) e in record { some = x.0; most = x.1; room = x.2 }
 
-    pub tables_only : (a : Filled) (after : List ℕ) → Tables s w n table a after → Served s w n table a after
-    tables_only a after (refused x j e) = table_refused s w n table (sym (judge_only s w x j)) e
+    pub tables_only : (a : Result ℕ Refusal) (after : List ℕ) → Tables s w n table a after → Served s w n table a after
+    tables_only a after (refused e j) = table_refused s w n table (judge_only s w (Err e) j)
     tables_only a after (copied p i f) =
-        table_copied s w n table refl (passes_number s w p) refl refl (sym (ap (first_failing single_test 1) (plan_counted p) ∙ (first_fails single_test p.modules i).1 f)) (λ e. omega arith)
+        table_copied s w n table (passes_figures s w p) refl refl (sym (ap (first_failing single_test 1) (plan_counted p) ∙ (first_fails single_test p.modules i).1 f)) (ne_eqb (i + 1) 0 (λ e. omega arith))
     tables_only a after (unasked p all f) =
-        table_unasked s w n table refl (passes_number s w p) refl refl (none_copied p all) refl refl
-        (simp (false_unless (blocks_test n (length table)) test_asked f))
+        table_unasked s w n table (passes_figures s w p) refl refl (none_copied p all) refl refl (false_unless (blocks_test n (length table)) test_asked f)
     tables_only a after (filled p all asked t r l h) =
-        table_filled s w n table refl (passes_number s w p) refl refl (none_copied p all) refl refl (simp (asked_test asked))
+        table_filled s w n table (passes_figures s w p) refl refl (none_copied p all) refl refl (asked_test asked)
         (table_only (chain s w) p.modules (passes_some p) r n table asked.room after h ∙ rw (plan_counted p))
 
     -- whatever the request says is so of what is answered
-    from_served : {f : Filled} {after : List ℕ} → Served s w n table f after → Tables s w n table f after → Tables s w n table (timetable_answer s w n table) (timetable_entries s w n table)
-    from_served {f} {after} x t = subst (Tables s w n table (timetable_answer s w n table)) x.1 (subst (λ (g : Filled). Tables s w n table g after) x.0 t)
+    from_served : {f : Result ℕ Refusal} {after : List ℕ} → Served s w n table f after → Tables s w n table f after → Tables s w n table (timetable_answer s w n table) (timetable_entries s w n table)
+    from_served {f} {after} x t = subst (Tables s w n table (timetable_answer s w n table)) x.1 (subst (λ (g : Result ℕ Refusal). Tables s w n table g after) x.0 t)
 
-    said : {f : Filled} {after : List ℕ} → Tables s w n table f after → Tables s w n table (timetable_answer s w n table) (timetable_entries s w n table)
+    said : {f : Result ℕ Refusal} {after : List ℕ} → Tables s w n table f after → Tables s w n table (timetable_answer s w n table) (timetable_entries s w n table)
     said {f} {after} t = from_served (tables_only f after t) t
 
     passed_finds : (p : Passes s w) → Tables s w n table (timetable_answer s w n table) (timetable_entries s w n table)
@@ -183,29 +187,29 @@ module _ (s w : List ℕ) where
 
     pub tables_finds : Tables s w n table (timetable_answer s w n table) (timetable_entries s w n table)
     tables_finds = ⊎_elim
-        (λ e. passed_finds (number_passes s w (eqb-true (judged s w).number 0 e)))
-        (λ e. said (refused (judged s w) (judge_finds s w) (eqb-false (judged s w).number 0 e)))
-        (true_or_false (eqb (judged s w).number 0))
+        (λ (t : (f : PlanFigures) × (judged s w ≡ Ok f)). passed_finds (number_passes s w (rw t.1)))
+        (λ (t : (e : Refusal) × (judged s w ≡ Err e)). said (refused t.0 (rw t.1 at (judge_finds s w))))
+        (refused_or_not (judged s w))
 
 -- ---- what is lent
 
 -- a refusal fills in nothing and leaves the table
-pub refused_lent : (s w : List ℕ) (n : ℕ) (table : List ℕ) (a : Filled) (after : List ℕ) → Tables s w n table a after → (a.refusal ≡ 0 → ⊥) → (a.count ≡ 0) × (after ≡ table)
-refused_lent s w n table a after (refused x j f) e = (refl, refl)
+pub refused_lent : (s w : List ℕ) (n : ℕ) (table : List ℕ) (a : Result ℕ Refusal) (after : List ℕ) → Tables s w n table a after → (number_in a ≡ 0 → ⊥) → (count_in a ≡ 0) × (after ≡ table)
+refused_lent s w n table a after (refused x j) e = (refl, refl)
 refused_lent s w n table a after (copied p i f) e = (refl, refl)
 refused_lent s w n table a after (unasked p all f) e = (refl, refl)
 refused_lent s w n table a after (filled p all asked t r l h) e = absurd (e refl)
 
 -- else n entries are filled in, and the table is as long as it was, and behind them as lent
-pub filled_lent : (s w : List ℕ) (n : ℕ) (table : List ℕ) (a : Filled) (after : List ℕ) → Tables s w n table a after → a.refusal ≡ 0
-    → (a.count ≡ n) × (length after ≡ length table) × (drop n after ≡ drop n table)
-filled_lent s w n table a after (refused x j f) e = absurd (f e)
+pub filled_lent : (s w : List ℕ) (n : ℕ) (table : List ℕ) (a : Result ℕ Refusal) (after : List ℕ) → Tables s w n table a after → number_in a ≡ 0
+    → (count_in a ≡ n) × (length after ≡ length table) × (drop n after ≡ drop n table)
+filled_lent s w n table a after (refused x j) e = absurd (number_some x e)
 filled_lent s w n table a after (copied p i f) e = absurd (omega arith)
 filled_lent s w n table a after (unasked p all f) e = absurd (omega arith)
 filled_lent s w n table a after (filled p all asked t r l h) e = (refl, h.size, h.rest)
 
-pub filled_most : (s w : List ℕ) (n : ℕ) (table : List ℕ) (a : Filled) (after : List ℕ) → Tables s w n table a after → a.refusal ≡ 0 → n ≤ most_blocks
-filled_most s w n table a after (refused x j f) e = absurd (f e)
+pub filled_most : (s w : List ℕ) (n : ℕ) (table : List ℕ) (a : Result ℕ Refusal) (after : List ℕ) → Tables s w n table a after → number_in a ≡ 0 → n ≤ most_blocks
+filled_most s w n table a after (refused x j) e = absurd (number_some x e)
 filled_most s w n table a after (copied p i f) e = absurd (omega arith)
 filled_most s w n table a after (unasked p all f) e = absurd (omega arith)
 filled_most s w n table a after (filled p all asked t r l h) e = asked.most
@@ -216,7 +220,7 @@ module _ (s w : List ℕ) (n : ℕ) (table table' : List ℕ) (same : length tab
   unfolding timetable_answer
   answer_same = rw same
 
-  pub entries_same : (timetable_answer s w n table).refusal ≡ 0 → take n (timetable_entries s w n table) ≡ take n (timetable_entries s w n table')
+  pub entries_same : number_in (timetable_answer s w n table) ≡ 0 → take n (timetable_entries s w n table) ≡ take n (timetable_entries s w n table')
   entries_same e =
       let ss = stages (chain s w) (plan s w) in
       rw (entries_filled s w n table e, entries_filled s w n table' (rw (← answer_same) e))

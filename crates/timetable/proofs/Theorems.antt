@@ -8,8 +8,12 @@ use mathlib.Core.Bool.{true}
 use mathlib.Core.List.{List}
 use mathlib.Core.Logic.{◌↔◌}
 use lib.ListN.{length, get_or, take, drop}
-use Rattle.records.specs.declared.Filled.{Filled}
-use Rattle.records.specs.Costs.{read_costs}
+use Rattle.std.specs.Prelude.{Result}
+use Rattle.records.specs.declared.refusal.Refusal.{Refusal}
+use Rattle.records.specs.Refusals.{number_in}
+use Rattle.records.specs.Filled.{count_in}
+use Rattle.records.specs.Costs.{board_in, read_costs}
+use Rattle.figures.specs.Plan.{answer_of}
 use Rattle.modules.specs.declared.Module.{Module}
 use Rattle.modules.specs.Model.{Chain}
 use Rattle.layout.specs.Layout.{plan_bytes}
@@ -60,7 +64,7 @@ module _ (c : Chain) (ms : List Module) (some : 1 ≤ length ms) (covered : cove
 
 module _ (s w : List ℕ) (n : ℕ) (table : List ℕ) where
   -- each answer and each table exactly as the request says
-  pub timetable_exactly : (a : Filled) (after : List ℕ) → ((timetable_answer s w n table ≡ a) × (timetable_entries s w n table ≡ after)) ↔ Tables s w n table a after
+  pub timetable_exactly : (a : Result ℕ Refusal) (after : List ℕ) → ((timetable_answer s w n table ≡ a) × (timetable_entries s w n table ≡ after)) ↔ Tables s w n table a after
   timetable_exactly a after = (
     λ e. rw (e.0, e.1) at (tabled.tables_finds s w n table),
     λ t. let x = tabled.tables_only s w n table a after t in (sym x.0, sym x.1),
@@ -70,27 +74,27 @@ module _ (s w : List ℕ) (n : ℕ) (table : List ℕ) where
   said : Tables s w n table (timetable_answer s w n table) (timetable_entries s w n table)
   said = tabled.tables_finds s w n table
 
-  module _ (filled : (timetable_answer s w n table).refusal ≡ 0) where
+  module _ (filled : number_in (timetable_answer s w n table) ≡ 0) where
     -- n entries are filled in, and the table is as long as it was, and behind them as lent
-    pub timetable_filled : ((timetable_answer s w n table).count ≡ n) × (length (timetable_entries s w n table) ≡ length table) × (drop n (timetable_entries s w n table) ≡ drop n table)
+    pub timetable_filled : (count_in (timetable_answer s w n table) ≡ n) × (length (timetable_entries s w n table) ≡ length table) × (drop n (timetable_entries s w n table) ≡ drop n table)
     timetable_filled = tabled.filled_lent s w n table _ _ said filled
 
     -- the bottleneck that Judge answers is its response: it is divided by one copy
-    pub timetable_single : (judged s w).copies ≡ 1
+    pub timetable_single : (answer_of (judged s w)).copies ≡ 1
     timetable_single = streamed.tables_single s w n table _ _ said filled
 
     -- each entry, with B as Judge answers it and L as it is answered for the same bytes
     module _ (b : ℕ) (some : 1 ≤ b) (most : b ≤ n) where
-      entry : (get_or (timetable_entries s w n table) (b - 1) 0 ≡ (b - 1) * (judged s w).response + (block_time_answer s w).count)
-          × ((judged s w).response ≤ (block_time_answer s w).count) × ((judged s w).response ≤ 23000000) × ((block_time_answer s w).count ≤ 23000000)
+      entry : (get_or (timetable_entries s w n table) (b - 1) 0 ≡ (b - 1) * (answer_of (judged s w)).response + count_in (block_time_answer s w))
+          × ((answer_of (judged s w)).response ≤ count_in (block_time_answer s w)) × ((answer_of (judged s w)).response ≤ 23000000) × (count_in (block_time_answer s w) ≤ 23000000)
       entry = streamed.tables_ends s w n table _ _ said filled b some most
 
-      pub timetable_ends : get_or (timetable_entries s w n table) (b - 1) 0 ≡ (b - 1) * (judged s w).response + (block_time_answer s w).count
+      pub timetable_ends : get_or (timetable_entries s w n table) (b - 1) 0 ≡ (b - 1) * (answer_of (judged s w)).response + count_in (block_time_answer s w)
       timetable_ends = entry.0
 
-      pub timetable_bounds : (b * (judged s w).response ≤ get_or (timetable_entries s w n table) (b - 1) 0)
-          × (get_or (timetable_entries s w n table) (b - 1) 0 ≤ (b - 1) * (judged s w).response + (block_time_answer s w).count)
-      timetable_bounds = omega (arith, entry.0, streamed.bottlenecks b (judged s w).response (block_time_answer s w).count some entry.1)
+      pub timetable_bounds : (b * (answer_of (judged s w)).response ≤ get_or (timetable_entries s w n table) (b - 1) 0)
+          × (get_or (timetable_entries s w n table) (b - 1) 0 ≤ (b - 1) * (answer_of (judged s w)).response + count_in (block_time_answer s w))
+      timetable_bounds = omega (arith, entry.0, streamed.bottlenecks b (answer_of (judged s w)).response (count_in (block_time_answer s w)) some entry.1)
 
       -- so every entry fits 35 bits
       pub timetable_most : get_or (timetable_entries s w n table) (b - 1) 0 ≤ 23000000000
@@ -99,7 +103,7 @@ module _ (s w : List ℕ) (n : ℕ) (table : List ℕ) where
           omega (arith, entry.0, mul-le-mul few entry.2, entry.3)
 
   -- a refusal fills in nothing and leaves the table as lent, whole
-  pub timetable_refused : ((timetable_answer s w n table).refusal ≡ 0 → ⊥) → ((timetable_answer s w n table).count ≡ 0) × (timetable_entries s w n table ≡ table)
+  pub timetable_refused : (number_in (timetable_answer s w n table) ≡ 0 → ⊥) → (count_in (timetable_answer s w n table) ≡ 0) × (timetable_entries s w n table ≡ table)
   timetable_refused = tabled.refused_lent s w n table _ _ said
 
   -- of what the table held nothing counts, only its length
@@ -107,10 +111,10 @@ module _ (s w : List ℕ) (n : ℕ) (table : List ℕ) where
     pub timetable_answer_same : timetable_answer s w n table ≡ timetable_answer s w n table'
     timetable_answer_same = tabled.answer_same s w n table table' same
 
-    pub timetable_entries_same : (timetable_answer s w n table).refusal ≡ 0 → take n (timetable_entries s w n table) ≡ take n (timetable_entries s w n table')
+    pub timetable_entries_same : number_in (timetable_answer s w n table) ≡ 0 → take n (timetable_entries s w n table) ≡ take n (timetable_entries s w n table')
     timetable_entries_same = tabled.entries_same s w n table table' same
 
   -- "Bytes after the 48th are never read"
   pub timetable_first : (timetable_answer s (take plan_bytes w) n table ≡ timetable_answer s w n table) × (timetable_entries s (take plan_bytes w) n table ≡ timetable_entries s w n table)
   unfolding timetable_answer timetable_entries
-  timetable_first = (rw (judge_first s w, plan_first w (read_costs s).board.tasks), rw (judge_first s w, plan_first w (read_costs s).board.tasks))
+  timetable_first = (rw (judge_first s w, plan_first w (board_in (read_costs s)).tasks), rw (judge_first s w, plan_first w (board_in (read_costs s)).tasks))

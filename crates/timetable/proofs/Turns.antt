@@ -11,8 +11,10 @@ use lib.Seq.{take-suc-set, drop-set-lt, drop-drop, drop-cons, drop_at, append_sn
 use Rattle.layout.specs.Layout.{most_modules}
 use Rattle.timetable.specs.Loops.{stages_in, AtMost, most_body, most_send, most_block, most_time}
 use Rattle.timetable.specs.Stages.{Stage}
-use Rattle.timetable.specs.Timetable.{greater, through_at, pass, throughs, last_of, end_of, ends, most_blocks}
-use Rattle.timetable.proofs.Greater.{greater_least, through_least}
+use Rattle.timetable.specs.Timetable.{through_at, pass, throughs, last_of, end_of, ends, most_blocks}
+use Rattle.std.specs.Prelude.{max}
+use Rattle.std.proofs.lemmas.List.{drop_all}
+use Rattle.timetable.proofs.Through.{through_least}
 use Rattle.timetable.proofs.Rows.{zeros, throughs_length}
 
 pub stages_length : (b x : List ℕ) (i n : ℕ) → length (stages_in b x i n) ≡ n
@@ -22,7 +24,7 @@ stages_length b x i (suc n) = ap suc (stages_length b x (i + 1) n)
 
 -- ---- one module more
 
-module _ (b x times : List ℕ) (m i ready out : ℕ) (h : i < m) (l : i < length times) (e : out ≡ greater (ready + get_or b i 0) (get_or times (i + 1) 0) + get_or x i 0) where
+module _ (b x times : List ℕ) (m i ready out : ℕ) (h : i < m) (l : i < length times) (e : out ≡ max (ready + get_or b i 0) (get_or times (i + 1) 0) + get_or x i 0) where
   -- what is passed and what is left make the same row
   pub row_turn : take (i + 1) (set times i out) ++ pass out (stages_in b x (i + 1) (m - (i + 1))) (drop (i + 1) (set times i out)) ≡ take i times ++ pass ready (stages_in b x i (m - i)) (drop i times)
   unfolding stages_in pass through_at
@@ -127,12 +129,16 @@ table_turn ss lent table n v h e d =
     rw (e, drop-cons lent n 0 h, add-one n, ends_more ss 1 n, c, ← d)
     (set_at (ends ss 1 n) (get_or lent n 0) (drop (suc n) lent) v n (ends_length ss 1 n) ∙ sym (append_snoc (ends ss 1 n) v (drop (suc n) lent)))
 
+-- the whole of it
+pub table_done : (ss : List Stage) (lent table : List ℕ) (n i : ℕ) → n ≡ i → length lent ≤ i → table ≡ ends ss 1 i ++ drop i lent → table ≡ ends ss 1 n
+table_done ss lent table n i d h e = e ∙ rw (d, drop_all i lent h) (append-nil (ends ss 1 i))
+
 -- ---- no time outgrows 64 bits
 
 -- a module executes and sends for at most a step after both are free
 pub later_most : (low i ready body free v : ℕ) → ready ≤ low + i * (most_body + most_send) → body ≤ most_body → free ≡ v → v ≤ low
-    → greater (ready + body) free ≤ low + i * (most_body + most_send) + most_body
-later_most low i ready body free v h g e f = greater_least (ready + body) free (low + i * (most_body + most_send) + most_body) (omega arith) (omega arith)
+    → max (ready + body) free ≤ low + i * (most_body + most_send) + most_body
+later_most low i ready body free v h g e f = omega arith
 
 module _ (b x : List ℕ) (sb : AtMost most_body b) (sx : AtMost most_send x) where
   -- a row is at most a step later for each module

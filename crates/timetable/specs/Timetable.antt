@@ -1,9 +1,10 @@
 -- The timetable of a stream (document 02, M-105): when each module is through with each block, by recurrence, and the service. That the
 -- recurrence is the one schedule of specs/Machine is `schedule_exactly` (proofs/Theorems). Assumes nothing.
-use Rattle.std.specs.Prelude.{ℕ, zero, suc, pred, ◌+◌, List, [], ◌∷◌, ◌++◌, Bool, cond, ◌&&◌, leb, eqb, length, get_or, drop, replicate}
-use Rattle.records.specs.declared.Filled.{Filled}
-use Rattle.records.specs.Costs.{read_costs}
-use Rattle.records.specs.Filled.{filled_in, unfilled}
+use Rattle.std.specs.Prelude.{ℕ, zero, suc, pred, ◌+◌, max, List, [], ◌∷◌, ◌++◌, Bool, cond, ◌&&◌, leb, eqb, length, get_or, drop, replicate, Result, Ok, Err}
+use Rattle.records.specs.declared.refusal.Refusal.{Refusal}
+use Rattle.records.specs.declared.refusal.Refusal.TheVariants.{Copied, WrongBlocks}
+use Rattle.records.specs.Refusals.{number_in, and_then}
+use Rattle.records.specs.Costs.{board_in, read_costs}
 use Rattle.modules.specs.declared.Module.{Module}
 use Rattle.modules.specs.Model.{chain_of}
 use Rattle.layout.specs.Layout.{modules_of}
@@ -13,13 +14,9 @@ use Rattle.timetable.specs.Stages.{Stage, stage_at, stages}
 
 -- ---- the recurrence
 
--- the later of two ticks
-unfoldable pub greater : ℕ → ℕ → ℕ
-greater x y = cond (leb x y) y x
-
 -- when a module is through with a block that it has at `ready`: it executes it and, as soon as the next module is free, sends it
 unfoldable pub through_at : Stage → (ready free : ℕ) → ℕ
-through_at s ready free = greater (ready + s.body) free + s.send
+through_at s ready free = max (ready + s.body) free + s.send
 
 -- when each of the modules is through with a block that the first of them has at `ready`; `before` is when each was through with the block
 -- before, and a module that does not exist is free from tick 0 on
@@ -57,7 +54,7 @@ abbrev pub schedule_of : List Stage → Schedule
 schedule_of ss = record {
   executes = starts ss;
   executed = λ i n. starts ss i n + (stage_at ss i).body;
-  sends = λ i n. greater (starts ss i n + (stage_at ss i).body) (get_or (throughs ss (pred n)) (i + 1) 0);
+  sends = λ i n. max (starts ss i n + (stage_at ss i).body) (get_or (throughs ss (pred n)) (i + 1) 0);
   sent = λ i n. get_or (throughs ss n) i 0;
 }
 
@@ -76,16 +73,13 @@ abbrev pub blocks_test : (n room : ℕ) → Bool
 blocks_test n room = leb 1 n && leb n most_blocks && leb n room
 
 -- what is answered to costs, plan bytes, a count of blocks and a table: Judge's refusals, then 20, then 21
-unfoldable pub timetable_answer : List ℕ → List ℕ → ℕ → List ℕ → Filled
+unfoldable pub timetable_answer : List ℕ → List ℕ → ℕ → List ℕ → Result ℕ Refusal
 timetable_answer s w n table =
-    let a = judged s w in
-    let copied = first_failing single_test 1 (modules_of w (read_costs s).board.tasks) in
-    cond (eqb a.number 0)
-    (cond (eqb copied 0) (cond (blocks_test n (length table)) (filled_in n) (unfilled 21 0)) (unfilled 20 copied))
-    (unfilled a.number a.place)
+    let copied = first_failing single_test 1 (modules_of w (board_in (read_costs s)).tasks) in
+    and_then (λ f. cond (eqb copied 0) (cond (blocks_test n (length table)) (Ok n) (Err WrongBlocks)) (Err (Copied copied))) (judged s w)
 
 -- and what the table then holds: the ends of blocks 1 to n before what lay behind them; what was lent in a refusal
 unfoldable pub timetable_entries : List ℕ → List ℕ → ℕ → List ℕ → List ℕ
 timetable_entries s w n table =
-    let c = chain_of s (read_costs s).board in
-    cond (eqb (timetable_answer s w n table).refusal 0) (ends (stages c (modules_of w c.tasks)) 1 n ++ drop n table) table
+    let c = chain_of s (board_in (read_costs s)) in
+    cond (eqb (number_in (timetable_answer s w n table)) 0) (ends (stages c (modules_of w c.tasks)) 1 n ++ drop n table) table

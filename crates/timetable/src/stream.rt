@@ -3,8 +3,8 @@ ghost use Rattle.std.specs.Prelude.{◌≡◌, ◌++◌, ◌+◌, ◌≤◌, ◌
 ghost use Rattle.modules.specs.Model.{chain_of};
 ghost use Rattle.layout.specs.Layout.{most_modules, modules_from};
 ghost use Rattle.timetable.specs.Stages.{stages};
-ghost use Rattle.timetable.specs.Timetable.{greater, pass as pass_of, last_of, ends, most_blocks};
-ghost use Rattle.timetable.specs.Loops.{stages_in, stage_in, AtMost, most_body, most_send, most_time, Each};
+ghost use Rattle.timetable.specs.Timetable.{pass as pass_of, last_of, ends, most_blocks};
+ghost use Rattle.timetable.specs.Loops.{stages_in, stage_in, AtMost, most_body, most_send, most_time};
 
 use layout::module_at;
 use records::Board;
@@ -14,57 +14,17 @@ const MODULES: usize = layout::MOST_MODULES as usize;
 // A time for each module, and 0 for the one that is not there after the last.
 const TIMES: usize = MODULES + 1;
 
-// The later of two ticks.
-fn later(x: u64, y: u64) -> u64
-    ensures { result ≡ greater x y }
-{
-    if x <= y { y } else { x }
-}
-
 // The transfer from the i-th of count modules to the next, 0 for the last.
 fn send_of(costs: &[u8], board: Board, plan: &[u8], count: u32, i: u32) -> u32
     requires { (i < count) × (count ≤ most_modules) }
     ensures { result ≡ (stage_in (chain_of costs.now board) plan.now count i).send }
 {
-    let next = i + 1;
-    if next < count {
-        let m = module_at(plan, i);
-        let to = module_at(plan, next);
-        return modules::transfer(costs, board, m.last, m.cores, to.cores);
+    if count <= i + 1 {
+        return 0;
     }
-    0
-}
-
-// The bodies of count modules.
-fn bodies_of(costs: &[u8], board: Board, plan: &[u8], count: u32) -> [u64; MODULES]
-    requires { count ≤ most_modules }
-    ensures { Each (λ i. (stage_in (chain_of costs.now board) plan.now count i).body) most_body count result }
-{
-    let mut bodies = [0u64; MODULES];
-    let mut i: u32 = 0;
-    while i < count {
-        let m = module_at(plan, i);
-        let at = i as usize;
-        bodies[at] = modules::body(costs, board, m.first, m.last, m.cores);
-        i += 1;
-    }
-    bodies
-}
-
-// The transfers of count modules, each to the next; 0 for the last.
-fn sends_of(costs: &[u8], board: Board, plan: &[u8], count: u32) -> [u64; MODULES]
-    requires { count ≤ most_modules }
-    ensures { Each (λ i. (stage_in (chain_of costs.now board) plan.now count i).send) most_send count result }
-{
-    let mut sends = [0u64; MODULES];
-    let mut i: u32 = 0;
-    while i < count {
-        let send = send_of(costs, board, plan, count, i);
-        let at = i as usize;
-        sends[at] = send as u64;
-        i += 1;
-    }
-    sends
+    let m = module_at(plan, i);
+    let to = module_at(plan, i + 1);
+    modules::transfer(costs, board, m.last, m.cores, to.cores)
 }
 
 // One block through count modules. `through` holds when each was through with the block before, and then with this one. Answers when the
@@ -76,15 +36,11 @@ fn pass(through: &mut [u64], bodies: &[u64], sends: &[u64], count: usize) -> u64
         × (result ≡ last_of (get_or through.old 0 0) (pass_of (get_or through.old 0 0) (stages_in bodies.now sends.now 0 count) through.old)) }
 {
     let mut ready = through[0];
-    let mut i: usize = 0;
-    while i < count {
-        let free = through[i + 1];
+    for i in 0..count {
         let executed = ready + bodies[i];
-        let start = later(executed, free);
-        let sent = start + sends[i];
-        through[i] = sent;
-        ready = sent;
-        i += 1;
+        let start = executed.max(through[i + 1]);
+        ready = start + sends[i];
+        through[i] = ready;
     }
     ready
 }
@@ -96,11 +52,8 @@ fn run(bodies: &[u64], sends: &[u64], count: usize, n: usize, table: &mut [u64])
     ensures { table.new ≡ ends (stages_in bodies.now sends.now 0 count) 1 n ++ drop n table.old }
 {
     let mut through = [0u64; TIMES];
-    let mut i: usize = 0;
-    while i < n {
-        let end = pass(&mut through, bodies, sends, count);
-        table[i] = end;
-        i += 1;
+    for end in &mut table[..n] {
+        *end = pass(&mut through, bodies, sends, count);
     }
 }
 
@@ -109,7 +62,12 @@ pub(crate) fn fill(costs: &[u8], board: Board, plan: &[u8], count: u32, n: usize
     requires { (count ≤ most_modules) × (n ≤ most_blocks) × (n ≤ length table.old) }
     ensures { table.new ≡ ends (stages (chain_of costs.now board) (modules_from plan.now 0 count)) 1 n ++ drop n table.old }
 {
-    let bodies = bodies_of(costs, board, plan, count);
-    let sends = sends_of(costs, board, plan, count);
+    let mut bodies = [0u64; MODULES];
+    let mut sends = [0u64; MODULES];
+    for i in 0..count {
+        let m = module_at(plan, i);
+        bodies[i as usize] = modules::body(costs, board, m.first, m.last, m.cores);
+        sends[i as usize] = send_of(costs, board, plan, count, i) as u64;
+    }
     run(&bodies, &sends, count as usize, n, table);
 }

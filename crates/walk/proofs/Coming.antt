@@ -10,7 +10,7 @@ use native.Mathlib.Nat.{eq-or-lt_of_le, mul-le-mul_right}
 use native.Mathlib.Omega.{arith}
 use lib.ListN.{get_or}
 use lib.Dec.{T, ltb, eqb}
-use borrow.Author.Tests.{le-ltb, leb-true, eqb-true, eqb-false, eq-eqb, ne_eqb, not-true, not-false}
+use borrow.Author.Tests.{le-ltb, leb-true, eqb-true, eqb-false, eq-eqb, ne_eqb, not-false}
 use Rattle.records.specs.declared.Board.{Board}
 use Rattle.records.proofs.Cases as cases
 use Rattle.records.proofs.Cases.{lt_or_le, true_not_false, false_unless}
@@ -31,7 +31,7 @@ use Rattle.sketch.specs.Slacks.{slack_at}
 use Rattle.threshold.specs.Words.{reach_at, Laid, AllFilled}
 use Rattle.walk.specs.declared.rooms.Passed.{Passed}
 use Rattle.weights.specs.Cells.{weight_by, Celled, weight_on, Closed, Weighed}
-use Rattle.walk.specs.Walk.{marked_by, PassedRight, room_of, may_come, FirstCopies, SomeNext}
+use Rattle.walk.specs.Walk.{marked_by, PassedRight, room_of, may_come, LeastCopies, SomeNext}
 use Rattle.weights.proofs.Cells.{weight_last, weight_cell}
 use Rattle.weights.proofs.Fitting.{Spares, spares_facts}
 use Rattle.weights.proofs.Beginning.{start_slack}
@@ -76,15 +76,15 @@ module _ (c : Chain) (n : ℕ) where
 
     -- the two tests that the code makes are the definition's
     module _ (room : ℕ) {x : Bool} (spares : x ≡ sparing_on c n s t l r p q) where
-      pub goes_not : not x ≡ true → false ≡ goes_on (problem c) (sparing_on c n) (weight_on c n) s t (λ _. room) l r p q
-      goes_not h = rw (← spares, not-true x h) refl
+      pub goes_not : x ≡ false → false ≡ goes_on (problem c) (sparing_on c n) (weight_on c n) s t (λ _. room) l r p q
+      goes_not h = rw (← spares, h) refl
 
-      pub goes_spares : not x ≡ false → T (sparing_on c n s t l r p q)
-      goes_spares h = subst T (sym (not-false x h) ∙ spares) tt
+      pub goes_spares : x ≡ true → T (sparing_on c n s t l r p q)
+      goes_spares h = subst T (sym h ∙ spares) tt
 
-      pub goes_by : {own rest : ℕ} → not x ≡ false → own ≡ price c t l r p q → rest ≡ weight_on c n p l q
+      pub goes_by : {own rest : ℕ} → x ≡ true → own ≡ price c t l r p q → rest ≡ weight_on c n p l q
           → ltb (own + rest) room ≡ goes_on (problem c) (sparing_on c n) (weight_on c n) s t (λ _. room) l r p q
-      goes_by h e d = rw (← spares, not-false x h, e, d) refl
+      goes_by h e d = rw (← spares, h, e, d) refl
 
 -- ---- the module l r p after m
 
@@ -202,28 +202,19 @@ module _ (c : Chain) (n : ℕ) (m : Passed) where
   abbrev pub NoneBelow : ℕ → Type 0
   NoneBelow l = (i : ℕ) → i < l → (r : ℕ) → r ≤ c.board → (p : ℕ) → p ≤ c.board → may_come c n m i r p ≡ false
 
-  -- where some module may come, and none that ends before the last task, one that ends with it does
-  pub last_comes : (l : ℕ) (x : Module) → c.tasks ≤ l → SomeNext c n m → NoneBelow l → FirstCopies c n m l x → 1 ≤ x.copies
-  last_comes l x h s none f = elim (lt_or_le 0 x.copies) [
-    | inl u ↦ u
-    | inr u ↦ true_not_false (may_come c n m s.last s.copies s.cores) s.comes (elim (lt_or_le s.last l) [
-      | inl d ↦ none s.last d s.copies s.inside.1 s.cores s.inside.2
-      | inr d ↦
-          let e : s.last ≡ l = omega (arith, s.inside.0) in
-          rw e (f.none (omega arith) s.copies s.inside.1 s.cores s.inside.2)
-    ])
-  ]
+  -- where some module may come, one does that ends in the chain
+  pub some_comes : (l : ℕ) → c.tasks < l → SomeNext c n m → NoneBelow l → ⊥
+  some_comes l h s none = true_not_false (may_come c n m s.last s.copies s.cores) s.comes (none s.last (omega (arith, s.inside.0)) s.copies s.inside.1 s.cores s.inside.2)
 
   -- the first that may come is the walk's
-  pub next_is : (l : ℕ) (x : Module) → l ≤ c.tasks → NoneBelow l → FirstCopies c n m l x → 1 ≤ x.copies
-      → x ≡ chosen (problem c) (sparing_on c n) (weight_on c n) m.cores m.last (room_of c n m)
-  next_is l x h none f some =
+  pub next_is : (l : ℕ) (x : Module) → l ≤ c.tasks → NoneBelow l → LeastCopies c n m l x → x ≡ chosen (problem c) (sparing_on c n) (weight_on c n) m.cores m.last (room_of c n m)
+  next_is l x h none f =
       (λ i. record { first = f.first i; last = f.last i; copies = x.copies; cores = x.cores })
       ∙ sym (chosen_found (problem c) (sparing_on c n) (weight_on c n) m.cores m.last (room_of c n m) l x.copies x.cores h f.high.0 f.high.1
-      (subst T (sym (f.comes some)) tt)
+      (subst T (sym f.comes) tt)
       (λ i r p a b d. chooses_not i r p (none i a r b p d))
-      (λ r p a d. chooses_not l r p (f.none_below some r a p d))
-      (λ p a. chooses_not l x.copies p (f.cores_first some p a)))
+      (λ r p a d. chooses_not l r p (f.none_below r a p d))
+      (λ p a. chooses_not l x.copies p (f.cores_first p a)))
     where
       chooses_not : (l r p : ℕ) → may_come c n m l r p ≡ false → T (not (may_come c n m l r p))
       chooses_not l r p e = subst (λ b. T (not b)) (sym e) tt

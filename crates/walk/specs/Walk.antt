@@ -1,5 +1,5 @@
 -- The walk over the weighed cells: what its functions hand on. Assumes nothing.
-use Rattle.std.specs.Prelude.{ℕ, suc, ◌+◌, ◌-◌, ◌*◌, ◌≤◌, ◌<◌, ◌≡◌, List, Bool, not, true, false, cond, get_or, eqb}
+use Rattle.std.specs.Prelude.{ℕ, suc, ◌+◌, ◌-◌, ◌*◌, ◌≤◌, ◌<◌, ◌≡◌, List, Bool, not, true, false, cond, get_or, Option, MatchOption, eqb}
 use Rattle.modules.specs.declared.Module.{Module}
 use Rattle.modules.specs.Model.{Chain}
 use Rattle.search.specs.Least.{pick}
@@ -49,22 +49,28 @@ module _ (c : Chain) (n : ℕ) (m : Passed) where
   abbrev pub may_come : (l r p : ℕ) → Bool
   may_come l r p = choice (problem c) (sparing_on c n) (weight_on c n) m.cores m.last (room_of c n m) l r p
 
-  -- x is the first count of cores, with the last task l and r copies, that may come, or 0 where none may
-  pub record FirstCores (l r x : ℕ) : Type 0 where
+  -- x is the first count of cores, with the last task l and r copies, that may come
+  pub record LeastCores (l r x : ℕ) : Type 0 where
     pub high : x ≤ c.board
-    pub comes : 1 ≤ x → may_come l r x ≡ true
-    pub none_below : 1 ≤ x → (p : ℕ) → p < x → may_come l r p ≡ false
-    pub none : x ≡ 0 → (p : ℕ) → p ≤ c.board → may_come l r p ≡ false
+    pub comes : may_come l r x ≡ true
+    pub none_below : (p : ℕ) → p < x → may_come l r p ≡ false
 
-  -- x has the first copies with their first cores, with the last task l, or 0 copies where none may come
-  pub record FirstCopies (l : ℕ) (x : Module) : Type 0 where
+  -- x is that count, and there is none where none may come
+  abbrev pub FirstCores : (l r : ℕ) → Option ℕ → Type 0
+  FirstCores l r x = MatchOption x ((p : ℕ) → p ≤ c.board → may_come l r p ≡ false) (LeastCores l r)
+
+  -- x has the first copies with their first cores, with the last task l, that may come
+  pub record LeastCopies (l : ℕ) (x : Module) : Type 0 where
     pub first : x.first ≡ m.last + 1
     pub last : x.last ≡ l
     pub high : (x.copies ≤ c.board) × (x.cores ≤ c.board)
-    pub comes : 1 ≤ x.copies → may_come l x.copies x.cores ≡ true
-    pub none_below : 1 ≤ x.copies → (r : ℕ) → r < x.copies → (p : ℕ) → p ≤ c.board → may_come l r p ≡ false
-    pub cores_first : 1 ≤ x.copies → (p : ℕ) → p < x.cores → may_come l x.copies p ≡ false
-    pub none : x.copies ≡ 0 → (r : ℕ) → r ≤ c.board → (p : ℕ) → p ≤ c.board → may_come l r p ≡ false
+    pub comes : may_come l x.copies x.cores ≡ true
+    pub none_below : (r : ℕ) → r < x.copies → (p : ℕ) → p ≤ c.board → may_come l r p ≡ false
+    pub cores_first : (p : ℕ) → p < x.cores → may_come l x.copies p ≡ false
+
+  -- x is that module, and there is none where none may come
+  abbrev pub FirstCopies : ℕ → Option Module → Type 0
+  FirstCopies l x = MatchOption x ((r : ℕ) → r ≤ c.board → (p : ℕ) → p ≤ c.board → may_come l r p ≡ false) (LeastCopies l)
 
   -- some module may come
   pub record SomeNext : Type 0 where

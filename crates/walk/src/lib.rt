@@ -9,5 +9,7 @@ mod next;
 mod path;
 mod places;
 mod rooms;
+mod tables;
+mod turn;
 
-pub use first::{Walked, first_plan};
+pub use first::first_plan;

@@ -1,11 +1,9 @@
 // The module that the walk has passed, and what it leaves for those after it.
 ghost use Rattle.std.specs.Prelude.{◌≡◌, length};
-ghost use Rattle.modules.specs.Model.{chain_of};
-ghost use Rattle.weights.specs.Places.{Tabled};
 ghost use Rattle.walk.specs.Walk.{PassedRight, room_of, RoomsOf};
+ghost use Rattle.walk.specs.Tables.{chain_in};
 
-use crate::places::{price, spares_at};
-use records::Board;
+use crate::tables::Tables;
 
 // The module that the walk has passed: in its place, with its copies and cores, what was left for it and all after it, and how many of the
 // fewest cores it spares. A whole plan has so many.
@@ -21,42 +19,30 @@ pub(crate) struct Passed {
     pub left: u32,
 }
 
-// What is left for a module of q cores and all after it, one more than they may weigh.
-fn room_of(costs: &[u8], board: Board, work: &[u32], n: u64, m: Passed, q: u8) -> u32
-    requires { Tabled (chain_of costs.now board) board n work.now × PassedRight (chain_of costs.now board) n work.now m }
-    ensures { result ≡ room_of (chain_of costs.now board) n m q }
-{
-    if m.last == 0 {
-        return m.left;
-    }
-    if spares_at(
-        costs, board, work, n, m.before, m.from, m.last, m.copies, m.cores, q, m.spare,
-    ) {
-        let own = price(costs, board, m.from, m.last, m.copies, m.cores, q);
-        if own < (m.left as u64) {
-            return m.left - (own as u32);
+impl Tables<'_> {
+    // What is left for a module of q cores and all after it, one more than they may weigh.
+    fn room_of(&self, m: Passed, q: u8) -> u32
+        requires { PassedRight (chain_in self.now) self.now.n self.now.work.now m }
+        ensures { result ≡ room_of (chain_in self.now) self.now.n m q }
+    {
+        if m.last == 0 {
+            return m.left;
         }
+        if !self.spares_at(m.before, m.from, m.last, m.copies, m.cores, q, m.spare) {
+            return 0;
+        }
+        let own = self.price(m.from, m.last, m.copies, m.cores, q);
+        (m.left as u64).saturating_sub(own) as u32
     }
-    0
-}
 
-// That for each number of cores.
-pub(crate) fn rooms_of(
-    costs: &[u8],
-    board: Board,
-    work: &[u32],
-    n: u64,
-    m: Passed,
-    rooms: &mut [u32],
-)
-    requires { Tabled (chain_of costs.now board) board n work.now × PassedRight (chain_of costs.now board) n work.now m × (length rooms.old ≡ 33) }
-    ensures { RoomsOf (chain_of costs.now board) n m rooms.new × (length rooms.new ≡ 33) }
-{
-    let mut q: u8 = 0;
-    while q <= board.cores {
-        let room = room_of(costs, board, work, n, m, q);
-        let i = q as usize;
-        rooms[i] = room;
-        q += 1;
+    // That for each number of cores.
+    pub(crate) fn rooms_of(&self, m: Passed, rooms: &mut [u32])
+        requires { PassedRight (chain_in self.now) self.now.n self.now.work.now m × (length rooms.old ≡ 33) }
+        ensures { RoomsOf (chain_in self.now) self.now.n m rooms.new × (length rooms.new ≡ 33) }
+    {
+        for q in 0..=self.board.cores {
+            let room = self.room_of(m, q);
+            rooms[q as usize] = room;
+        }
     }
 }

@@ -4,11 +4,12 @@ use mathlib.Core.Path.{◌≡◌, sym, subst, ◌∙◌}
 use mathlib.Core.Bool.{Bool, true, false, cond, ◌&&◌, ◌||◌}
 use mathlib.Core.List.{List}
 use mathlib.Core.Logic.{⊎_elim}
-use Prim.Native.Nat.{ℕ, ◌+◌, ◌-◌, ◌*◌, ◌≤◌, ◌<◌}
+use Prim.Native.Nat.{ℕ, ◌+◌, ◌-◌, ◌*◌, ◌≤◌, ◌<◌, min, max}
 use native.Mathlib.Nat.{le_refl, mul-le-mul, mul-le-mul_right}
 use native.Mathlib.Omega.{arith}
 use lib.Dec.{T, ltb, leb, lt→ltb, eqb, not_T}
 use borrow.Author.Tests.{lt-ltb, le-ltb, le-leb, eq-eqb, ne_eqb}
+use Rattle.std.specs.Prelude.{None, Some}
 use Rattle.records.specs.declared.Board.{Board}
 use Rattle.records.proofs.Cases.{lt_or_le}
 use Rattle.modules.specs.Model.{Chain, response, transfer, handed}
@@ -20,19 +21,29 @@ use Rattle.search.specs.Plan.{cap}
 use Rattle.search.specs.Weight.{Table, over_copies}
 use Rattle.search.specs.Best.{fits_at}
 use Rattle.search.proofs.Tests.{or_l, or_r, and_i, eq→eqb}
-use Rattle.search.proofs.Loops.{over_copies_first, over_copies_none}
+use Rattle.search.proofs.Least.{lesser_low, lesser_high}
+use Rattle.search.proofs.Loops.{over_copies_first}
 use Rattle.search.proofs.Copies.{fewest_enough}
 use Rattle.search.proofs.Cheapest.{at_join, fewest_fit}
 use Rattle.search.proofs.Tiers.{tiered_rises}
 use Rattle.search.proofs.Sparing.{sparing_i}
 use Rattle.slack.specs.Problem.{grain, unit, ticks, price, problem, slack_on, enough_on, need_on, sparing_on}
+use Rattle.slack.specs.Greatest.{larger}
+use Rattle.slack.proofs.Greatest.{larger_low, larger_high}
 use Rattle.slack.proofs.Chain.{response_parts}
 use Rattle.slack.proofs.Enough.{enough_needs, enough_fewer}
 use Rattle.slack.proofs.Instance.{problem_tiered}
 use Rattle.rests.specs.Words.{served_in}
-use Rattle.weights.specs.Cells.{no_plan, weight_by, Celled, cell_in, FewestCopies, Loaded}
+use Rattle.weights.specs.Cells.{no_plan, weight_by, Celled, cell_in, LeastCopies, FewestCopies, Loaded}
 use Rattle.weights.proofs.Fitting.{reached_inside, spares_facts}
 use Rattle.weights.proofs.Copies.{copies_allow, copies_load}
+
+-- the lesser of two and the larger are std's
+pub min_is : (a b : ℕ) → min a b ≡ lesser a b
+min_is a b = ⊎_elim (λ (h : b < a). rw (lesser_high a b h) (omega arith)) (λ (h : a ≤ b). rw (lesser_low a b h) (omega arith)) (lt_or_le b a)
+
+pub max_is : (a b : ℕ) → max a b ≡ larger a b
+max_is a b = ⊎_elim (λ (h : b < a). rw (larger_low a b h) (omega arith)) (λ (h : a ≤ b). rw (larger_high a b h) (omega arith)) (lt_or_le b a)
 
 pub chain_cap : (c : Chain) → cap (problem c) ≡ no_plan c.board
 unfolding cap
@@ -99,16 +110,13 @@ module _ {c : Chain} {s t q l base stay out : ℕ} {rep : Bool} (h : Loaded c s 
         low,
       )
 
-  pub copies_none : (T (sparing_on c n s t l r q q') → ⊥) → FewestCopies c n s t q l q' 0
-  copies_none f = record { few = omega arith; comes = λ a. absurd (omega arith); fewer = λ i u. absurd (f (fewest_spares i u).0) }
+  pub copies_none : (T (sparing_on c n s t l r q q') → ⊥) → FewestCopies c n s t q l q' None
+  copies_none f = λ i u. f (fewest_spares i u).0
 
-  pub copies_some : T (sparing_on c n s t l r q q') → FewestCopies c n s t q l q' r
+  pub copies_some : T (sparing_on c n s t l r q q') → FewestCopies c n s t q l q' (Some r)
   copies_some u =
-      let f = spares_facts c n s t l r q q' u in record {
-        few = omega (arith, f.fits.room, mul-le-mul {n₁ = r} {m₁ = 1} (le_refl r) some);
-        comes = λ a. u;
-        fewer = λ i v. (f.fits.one_copy, (fewest_spares i v).1);
-      }
+      let f = spares_facts c n s t l r q q' u in
+      record { few = omega (arith, f.fits.room, mul-le-mul {n₁ = r} {m₁ = 1} (le_refl r) some); comes = u; fewer = λ i v. (fewest_spares i v).1 }
 
 -- ---- what they weigh
 
@@ -120,7 +128,7 @@ small_paid out r {x} e = ⊎_elim
     (lt_or_le 1 r)
 
 module _ {c : Chain} {s t q l base stay out : ℕ} {rep : Bool} (h : Loaded c s t q l base stay out rep) (n q' : ℕ) {sent r : ℕ} (is_sent : sent ≡ transfer c l q q')
-    (fewest : FewestCopies c n s t q l q' r) where
+    (fewest : LeastCopies c n s t q l q' r) where
   -- what they pay of the cost of handing out
   pays : cond (ltb 1 r) out 0 ≡ handed c r
   unfolding handed
@@ -129,26 +137,17 @@ module _ {c : Chain} {s t q l base stay out : ℕ} {rep : Bool} (h : Loaded c s 
   pub priced : {own paid : ℕ} → paid ≡ cond (ltb 1 r) out 0 → own ≡ unit * (r * q) + (stay + sent + paid) → own ≡ price c t l r q q'
   priced e d = omega (arith, d, e, passage_parts c (t + 1) l r q q', h.stays, pays, is_sent)
 
-  module _ (R : Table) where
-    -- none may come
-    pub over_none : r ≡ 0 → no_plan c.board ≡ over_copies (problem c) (sparing_on c n) R s t q l q'
-    over_none e = sym (over_copies_none (problem c) (sparing_on c n) R s t q l q' (λ i b. not_T (sparing_on c n s t l i q q') (λ u. omega (arith, fewest.fewer i u))) ∙ chain_cap c)
-
-    -- the fewest are the cheapest
-    pub over_some : 1 ≤ r → lesser (no_plan c.board) (price c t l r q q' + R q l q') ≡ over_copies (problem c) (sparing_on c n) R s t q l q'
-    over_some a =
-        rw (← (chain_cap c)) (sym (over_copies_first (problem c) (sparing_on c n) R s t q l q' r
-        (λ j m. tiered_rises (problem c) (ticks c) (problem_tiered c) s t l r j q q' (omega (arith, passage_parts c (t + 1) l r q q', passage_parts c (t + 1) l j q q', handed_rises c r j m)) m)
-        fewest.few (fewest.comes a) (λ i b. not_T (sparing_on c n s t l i q q') (λ u. omega (arith, fewest.fewer i u)))))
+  -- the fewest are the cheapest
+  pub over_some : (R : Table) → lesser (no_plan c.board) (price c t l r q q' + R q l q') ≡ over_copies (problem c) (sparing_on c n) R s t q l q'
+  over_some R =
+      rw (← (chain_cap c)) (sym (over_copies_first (problem c) (sparing_on c n) R s t q l q' r
+      (λ j m. tiered_rises (problem c) (ticks c) (problem_tiered c) s t l r j q q' (omega (arith, passage_parts c (t + 1) l r q q', passage_parts c (t + 1) l j q q', handed_rises c r j m)) m)
+      fewest.few fewest.comes (λ i b. not_T (sparing_on c n s t l i q q') (λ u. omega (arith, fewest.fewer i u)))))
 
 -- where nothing can follow one copy, no copies may come
-pub copies_unserved : (c : Chain) (n s t q l q' b : ℕ) {x : Bool} → b ≡ need_on c n s t q - q → x ≡ served_in c n l q' b 0 → x ≡ false → FewestCopies c n s t q l q' 0
-copies_unserved c n s t q l q' b e served none = record {
-  few = omega arith;
-  comes = λ a. absurd (omega arith);
-  fewer = λ i u.
-      let f = spares_facts c n s t l i q q' u in
-      let one = mul-le-mul {n₁ = 1} {m₁ = q} f.fits.one_copy (le_refl q) in
-      absurd (subst T (sym served ∙ none)
-      (enough_served c n q l q' b (enough_fewer c n q l q' (need_on c n s t q - i * q) b (omega arith) f.enough)));
-}
+pub copies_unserved : (c : Chain) (n s t q l q' b : ℕ) {x : Bool} → b ≡ need_on c n s t q - q → x ≡ served_in c n l q' b 0 → x ≡ false → FewestCopies c n s t q l q' None
+copies_unserved c n s t q l q' b e served none = λ i u.
+    let f = spares_facts c n s t l i q q' u in
+    let one = mul-le-mul {n₁ = 1} {m₁ = q} f.fits.one_copy (le_refl q) in
+    subst T (sym served ∙ none)
+    (enough_served c n q l q' b (enough_fewer c n q l q' (need_on c n s t q - i * q) b (omega arith) f.enough))

@@ -1,13 +1,13 @@
 -- A module in its place at a threshold: the test as its facts, and what is left of it once the code has made the other tests; the same for
 -- a module of a plan of the fewest cores. Assumes nothing.
 use mathlib.Core.Path.{◌≡◌, sym, ◌∙◌}
-use mathlib.Core.Bool.{Bool, true, false, not, ◌&&◌, and-true, and-false}
+use mathlib.Core.Bool.{Bool, true, false, ◌&&◌, and-true, and-false}
 use mathlib.Core.Logic.{inl, inr}
 use Prim.Native.Nat.{ℕ, ◌+◌, ◌-◌, ◌*◌, ◌≤◌, ◌<◌}
 use native.Mathlib.Nat.{mul-le-mul_right}
 use native.Mathlib.Omega.{arith}
 use lib.Dec.{T, leb}
-use borrow.Author.Tests.{lt-ltb, le-leb, ltb-true, leb-true, not-true, not-false}
+use borrow.Author.Tests.{lt-ltb, le-leb, ltb-true, leb-true}
 use Rattle.records.proofs.Cases as cases
 use Rattle.records.proofs.Cases.{false_unless, true_not_false}
 use Rattle.modules.specs.Model.{Chain, response, transfer}
@@ -62,14 +62,14 @@ module _ (c : Chain) (n s t l r p q : ℕ) where
   pub fits_not : (Fits → ⊥) → fits_at (problem c) n s t l r p q ≡ false
   fits_not h = false_unless (fits_at (problem c) n s t l r p q) fits_facts h
 
-  pub fits_kept_not : {x : Bool} → x ≡ module_rules c (t + 1) l r p → not x ≡ true → fits_at (problem c) n s t l r p q ≡ false
-  fits_kept_not {x} e h = fits_not (λ f. true_not_false x (e ∙ f.keeps) (not-true x h))
+  pub fits_kept_not : {x : Bool} → x ≡ module_rules c (t + 1) l r p → x ≡ false → fits_at (problem c) n s t l r p q ≡ false
+  fits_kept_not {x} e h = fits_not (λ f. true_not_false x (e ∙ f.keeps) h)
 
   -- where all else holds, it is the threshold that decides
-  pub fits_within : {x : Bool} {y : ℕ} → Reached c t l → 1 ≤ r → 1 ≤ p → x ≡ module_rules c (t + 1) l r p → not x ≡ false → s + r * p + q ≤ c.board
+  pub fits_within : {x : Bool} {y : ℕ} → Reached c t l → 1 ≤ r → 1 ≤ p → x ≡ module_rules c (t + 1) l r p → x ≡ true → s + r * p + q ≤ c.board
       → y ≡ response c s (t + 1) l r p q → leb (y * grain) (n * r) ≡ fits_at (problem c) n s t l r p q
   fits_within {x} reached copies cores e h room d =
-      simp (lt-ltb t l reached.later, le-leb l c.tasks (reached_inside reached), le-leb 1 r copies, le-leb 1 p cores, ← e, not-false x h, le-leb (s + r * p + q) c.board room, and-true, d)
+      simp (lt-ltb t l reached.later, le-leb l c.tasks (reached_inside reached), le-leb 1 r copies, le-leb 1 p cores, ← e, h, le-leb (s + r * p + q) c.board room, and-true, d)
 
   -- ---- in a plan of the fewest cores
 
@@ -110,8 +110,8 @@ module _ (c : Chain) (n s t l r p q : ℕ) where
     spares_by : (fits_at (problem c) n s t l r p q && x) ≡ sparing_on c n s t l r p q
     spares_by = rw (le-leb (r * p) (need_on c n s t p) few, served, left, sent)
 
-    pub spares_unserved : not x ≡ true → false ≡ sparing_on c n s t l r p q
-    spares_unserved h = sym (and-false (fits_at (problem c) n s t l r p q)) ∙ rw (← (not-true x h)) spares_by
+    pub spares_unserved : x ≡ false → false ≡ sparing_on c n s t l r p q
+    spares_unserved h = sym (and-false (fits_at (problem c) n s t l r p q)) ∙ rw (← h) spares_by
 
-    pub spares_served : {y : Bool} → not x ≡ false → y ≡ fits_at (problem c) n s t l r p q → y ≡ sparing_on c n s t l r p q
-    spares_served h d = d ∙ sym (and-true (fits_at (problem c) n s t l r p q)) ∙ rw (← (not-false x h)) spares_by
+    pub spares_served : {y : Bool} → x ≡ true → y ≡ fits_at (problem c) n s t l r p q → y ≡ sparing_on c n s t l r p q
+    spares_served h d = d ∙ sym (and-true (fits_at (problem c) n s t l r p q)) ∙ rw (← h) spares_by

@@ -25,9 +25,9 @@ use Rattle.slack.proofs.Greatest.{larger_ge, larger_is}
 use Rattle.sketch.specs.Slacks.{slack_at}
 use Rattle.threshold.specs.Words.{execution_at, internal_at, reach_at, KeptBeyond}
 use Rattle.weights.specs.Places.{Tabled}
-use Rattle.weights.specs.Cells.{no_plan, cell_at, cell_in, Celled, Reads, FewestCopies, Loaded, Looked}
+use Rattle.weights.specs.Cells.{no_plan, cell_at, cell_in, Celled, Reads, LeastCopies, Loaded, Looked}
 use Rattle.weights.proofs.Fitting.{Spares, spares_facts}
-use Rattle.weights.proofs.Cells.{chain_cap, over_none, over_some}
+use Rattle.weights.proofs.Cells.{chain_cap, over_some}
 
 -- a word is another or not
 pub same_or_not : (x y : ℕ) → (x ≡ y) ⊎ (x ≡ y → ⊥)
@@ -211,24 +211,23 @@ module _ (c : Chain) (n s t q : ℕ) where
 
   -- ---- one module before one of q' cores, by its fewest copies
 
-  module _ {l base stay out : ℕ} {rep : Bool} (h : Loaded c s t q l base stay out rep) (q' : ℕ) {sent r : ℕ} (is_sent : sent ≡ transfer c l q q') (fewest : FewestCopies c n s t q l q' r) where
-    -- this one
-    abbrev this : Which
-    this i j = (i ≡ l) × (j ≡ q')
+  -- no copies of it may come
+  pub looked_unfit : (w : List ℕ) (l q' : ℕ) {v : ℕ} → v ≡ no_plan c.board → ((r : ℕ) → T (sparing_on c n s t l r q q') → ⊥)
+      → Looked c n s t q w w (λ i j. (i ≡ l) × (j ≡ q')) v (λ R. over_copies (problem c) (sparing_on c n) R s t q l q')
+  looked_unfit w l q' e none =
+      looked_none w (λ i j. (i ≡ l) × (j ≡ q')) (λ R. over_copies (problem c) (sparing_on c n) R s t q l q') e
+      (λ i k j a u. none k (subst (λ x. T (sparing_on c n s t l k q x)) a.1 (subst (λ x. T (sparing_on c n s t x k q j)) a.0 u)))
+      (λ R. e ∙ sym (chain_cap c) ∙ sym (copies_unfit R l q' none))
 
+  module _ {l base stay out : ℕ} {rep : Bool} (h : Loaded c s t q l base stay out rep) (q' : ℕ) {sent r : ℕ} (is_sent : sent ≡ transfer c l q q') (fewest : LeastCopies c n s t q l q' r) where
     -- its least weight
     abbrev pub least_of : Table → ℕ
     least_of R = over_copies (problem c) (sparing_on c n) R s t q l q'
 
-    pub looked_unfit : (w : List ℕ) {v : ℕ} → v ≡ no_plan c.board → r < 1 → Looked c n s t q w w (λ i j. (i ≡ l) × (j ≡ q')) v least_of
-    looked_unfit w e none =
-        looked_none w this least_of e (λ i k j a u. omega (arith, fewest.fewer k (subst (λ x. T (sparing_on c n s t l k q x)) a.1 (subst (λ x. T (sparing_on c n s t x k q j)) a.0 u))))
-        (λ R. e ∙ over_none h n q' is_sent fewest R (omega arith))
-
     -- the least of none and its price with the rest
-    module _ (some : 1 ≤ r) (own rest : ℕ) {v : ℕ} (is_own : own ≡ price c t l r q q') (is_least : v ≡ lesser (no_plan c.board) (own + rest)) where
+    module _ (own rest : ℕ) {v : ℕ} (is_own : own ≡ price c t l r q q') (is_least : v ≡ lesser (no_plan c.board) (own + rest)) where
       facts : Spares c n s t l r q q'
-      facts = spares_facts c n s t l r q q' (fewest.comes some)
+      facts = spares_facts c n s t l r q q' fewest.comes
 
       positive : 1 ≤ own
       positive = omega (arith, is_own, mul-le-mul {n₁ = 1} {m₁ = 1} facts.fits.one_copy facts.fits.one_core)
@@ -240,7 +239,7 @@ module _ (c : Chain) (n s t q : ℕ) where
       v_most = omega (arith, is_least, lesser_le (no_plan c.board) (own + rest))
 
       v_is : (R : Table) → rest ≡ R q l q' → v ≡ least_of R
-      v_is R e = is_least ∙ rw (is_own, e) (over_some h n q' is_sent fewest R some)
+      v_is R e = is_least ∙ rw (is_own, e) (over_some h n q' is_sent fewest R)
 
       -- behind the last task nothing is marked
       pub looked_end : (w : List ℕ) → l ≡ c.tasks → rest ≡ 0 → Looked c n s t q w w (λ i j. (i ≡ l) × (j ≡ q')) v least_of
@@ -265,12 +264,12 @@ module _ (c : Chain) (n s t q : ℕ) where
             long = length-set w i rest;
             kept = λ j x. ⊎_elim
                 (λ (d : j ≡ i).
-                let was = x l r q' (refl, refl) (fewest.comes some) more d in
+                let was = x l r q' (refl, refl) fewest.comes more d in
                 rw d (made ∙ e ∙ large (cell_in c w q l q') (rw d at was)))
                 (λ (d : j ≡ i → ⊥). get_or-set_other w i j rest 0 d)
                 (same_or_not j i);
             closed = λ a k b y u m. rw (y.0, y.1, made) marked;
-            weighs = λ R reads. v_is R (sym made ∙ sym (reads.cell q l q' h.reached.later (spares_cell l r q' (fewest.comes some) more) (rw made marked)));
+            weighs = λ R reads. v_is R (sym made ∙ sym (reads.cell q l q' h.reached.later (spares_cell l r q' fewest.comes more) (rw made marked)));
             some = v_some;
             most = v_most;
           }

@@ -1,5 +1,5 @@
 -- What the rests of plans of the fewest cores weigh: the cells, and what a sweep over them leaves there. Assumes nothing.
-use Rattle.std.specs.Prelude.{ℕ, suc, ◌+◌, ◌-◌, ◌*◌, ◌≤◌, ◌<◌, ◌≡◌, List, Bool, not, true, cond, ◌&&◌, length, get_or, T, leb, eqb}
+use Rattle.std.specs.Prelude.{ℕ, suc, ◌+◌, ◌-◌, ◌*◌, ◌≤◌, ◌<◌, ◌≡◌, List, Bool, not, true, cond, ◌&&◌, length, get_or, Option, MatchOption, T, leb, eqb}
 use Rattle.records.specs.declared.Board.{Board}
 use Rattle.modules.specs.Model.{Chain, transfer, handed, body}
 use Rattle.modules.specs.Rules.{module_rules, copies_allowed}
@@ -57,11 +57,15 @@ module _ (c : Chain) (n : ℕ) where
   abbrev pub Closed : List ℕ → (s t q : ℕ) → Type 0
   Closed w s t q = (l r q' : ℕ) → T (sparing_on c n s t l r q q') → l < c.tasks → Marked c w q l q'
 
-  -- r is the fewest copies with which the module up to l may come before one of q' cores, 0 where none may
-  pub record FewestCopies (s t q l q' r : ℕ) : Type 0 where
+  -- r is the fewest copies with which the module up to l may come before one of q' cores
+  pub record LeastCopies (s t q l q' r : ℕ) : Type 0 where
     pub few : r ≤ c.board
-    pub comes : 1 ≤ r → T (sparing_on c n s t l r q q')
-    pub fewer : (i : ℕ) → T (sparing_on c n s t l i q q') → (1 ≤ r) × (r ≤ i)
+    pub comes : T (sparing_on c n s t l r q q')
+    pub fewer : (i : ℕ) → T (sparing_on c n s t l i q q') → r ≤ i
+
+  -- r is that number, and there is none where it may not come
+  abbrev pub FewestCopies : (s t q l q' : ℕ) → Option ℕ → Type 0
+  FewestCopies s t q l q' r = MatchOption r ((i : ℕ) → T (sparing_on c n s t l i q q') → ⊥) (LeastCopies s t q l q')
 
   -- the modules of the rest s t q whose last task and next cores are among some have been looked at: the rests after them are marked, no
   -- other word is written, and v is their least weight by whatever the marked cells say

@@ -1,3 +1,4 @@
 pub mod Cells
 pub mod Lightest
 pub mod Places
+pub mod Scales

@@ -1,5 +1,5 @@
 -- The lightest plans within the least threshold: what the service promises. Assumes nothing.
-use Rattle.std.specs.Prelude.{ℕ, ◌+◌, ◌≤◌, ◌<◌, ◌≡◌, List, length}
+use Rattle.std.specs.Prelude.{ℕ, ◌+◌, ◌≤◌, ◌≡◌, List, Option, None, MatchOption, length}
 use Rattle.records.specs.declared.Board.{Board}
 use Rattle.modules.specs.Model.{Chain}
 use Rattle.slack.specs.Problem.{top_threshold, fewest_on}
@@ -20,13 +20,12 @@ pub record Lightened (c : Chain) (b : Board) (w : List ℕ) (x : Lightest) : Typ
   pub weight : x.weight ≡ light_on c x.threshold
 
 -- what is answered to a board and words, and what the words are afterwards: what is laid and, where some plan is within the greatest
--- threshold, the tables of the least; where none is, no cores and no weight are answered. The words are as lent where the board is out of
+-- threshold, the tables of the least; where none is, nothing is answered. The words are as lent where the board is out of
 -- range or they are too few, and behind the tables in each case
-pub record LightestOf (c : Chain) (b : Board) (w w' : List ℕ) (x : Lightest) : Type 0 where
+pub record LightestOf (c : Chain) (b : Board) (w w' : List ℕ) (x : Option Lightest) : Type 0 where
   pub long : length w' ≡ length w
-  pub roomy : x.threshold ≤ top_threshold → Area b w
-  pub decided : Area b w → Decided c x.threshold × Laid c w'
-  pub found : Area b w → x.threshold ≤ top_threshold → Lightened c b w' x
-  pub none : top_threshold < x.threshold → (x.cores ≡ 0) × (x.weight ≡ 0)
-  pub refused : (Area b w → ⊥) → (x.threshold ≡ top_threshold + 1) × (w' ≡ w)
+  pub answered : MatchOption x (Area b w → Decided c (top_threshold + 1))
+      (λ y. Area b w × (y.threshold ≤ top_threshold) × Decided c y.threshold × Lightened c b w' y)
+  pub laid : Area b w → Laid c w'
+  pub refused : (Area b w → ⊥) → (x ≡ None) × (w' ≡ w)
   pub kept : KeptBeyond w w'

@@ -6,9 +6,11 @@
 #![tactic(auto)]
 
 mod after;
+mod grown;
 mod lightest;
 mod loads;
 mod marks;
+mod scale;
 mod sweep;
 mod weigh;
 

@@ -16,19 +16,12 @@ pub(crate) fn cell_of(cores: u8, s: u8, t: u8, q: u8) -> usize
     (t as usize) * SQUARE + row * SIDE + ((s as usize) - 1)
 }
 
-// At least 1.
-fn some_of(v: u32) -> u32
-    ensures { result ≡ larger v 1 }
-{
-    if v <= 1 { 1 } else { v }
-}
-
 // Marks the cell i, where it is not marked yet, and answers with its word.
 pub(crate) fn mark(work: &mut [u32], i: usize) -> u32
     requires { i < length work.old }
     ensures { (result ≡ larger (get_or work.old i 0) 1) × (work.new ≡ set work.old i result) }
 {
-    let v = some_of(work[i]);
+    let v = work[i].max(1);
     work[i] = v;
     v
 }
@@ -42,8 +35,7 @@ pub(crate) fn weight_after(work: &mut [u32], board: Board, p: u8, l: u8, q: u8) 
     if l == board.tasks {
         return 0;
     }
-    let i = cell_of(board.cores, p, l, q);
-    mark(work, i)
+    mark(work, cell_of(board.cores, p, l, q))
 }
 
 // What the rest weighs that comes after a module of p cores up to task l, as its cell says: nothing behind the last task, and where p or q
@@ -51,16 +43,7 @@ pub(crate) fn weight_after(work: &mut [u32], board: Board, p: u8, l: u8, q: u8) 
 pub fn weight_of(work: &[u32], board: Board, p: u8, l: u8, q: u8) -> u32
     ensures { result ≡ weight_by board work.now p l q }
 {
-    if l == board.tasks {
-        return 0;
-    }
-    if p < 1 {
-        return 0;
-    }
-    if q < 1 {
-        return 0;
-    }
-    if (board.cores as u32) < (p as u32) + (q as u32) {
+    if l == board.tasks || p < 1 || q < 1 || (board.cores as u32) < (p as u32) + (q as u32) {
         return 0;
     }
     word_at(work, cell_of(board.cores, p, l, q))

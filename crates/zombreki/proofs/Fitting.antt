@@ -4,12 +4,16 @@ use mathlib.Core.Path.{◌≡◌, sym, subst, ap}
 use mathlib.Core.List.{List}
 use Prim.Native.Nat.{ℕ, ◌≤◌, ◌<◌}
 use native.Mathlib.Omega.{arith}
-use Rattle.records.specs.Costs.{read_costs}
+use Rattle.records.specs.Costs.{board_in, read_costs}
 use Rattle.records.proofs.Laws.{accepted_costs}
-use Rattle.figures.specs.declared.Answer.{Answer}
-use Rattle.figures.specs.Plan.{figures_of}
+use Rattle.std.specs.Prelude.{Result}
+use Rattle.records.specs.declared.refusal.Refusal.{Refusal}
+use Rattle.records.specs.Refusals.{number_in}
+use Rattle.figures.specs.declared.PlanFigures.{PlanFigures}
+use Rattle.figures.specs.declared.answer.Answer.{Answer}
+use Rattle.figures.specs.Plan.{figures_of, answer_of}
 use Rattle.figures.proofs.Laws.{plan_bottleneck_lem}
-use Rattle.figures.proofs.Served.{Served, Served.refuses, Served.fills}
+use Rattle.figures.proofs.Served.{zero_figures, Served, Served.refuses, Served.fills}
 use Rattle.judge.specs.Judge.{judged}
 use Rattle.judge.specs.Claims.{Passes}
 use Rattle.judge.proofs.Laws.{judge_passes, judge_figures}
@@ -22,16 +26,16 @@ use Rattle.planners.proofs.Lending.{best_served, number_begun}
 use Rattle.planners.proofs.Theorems.{judge_same}
 use Rattle.zombreki.specs.Exported.{words}
 
-pub record Small (a : Answer) : Type 0 where
-  pub few : a.response ≤ 23000255
+pub record Small (a : Result PlanFigures Refusal) : Type 0 where
+  pub few : (answer_of a).response ≤ 23000255
 
 -- an answer that is a small one fits
-pub fits : {a b : Answer} → a ≡ b → Small b → a.response < words
-fits e h = let l = (subst Small (sym e) h).few in omega arith
+pub fits : {a : Answer} {b : Result PlanFigures Refusal} → a ≡ answer_of b → Small b → a.response < words
+fits e h = omega (arith, ap (λ (x : Answer). x.response) e, h.few)
 
 -- a refusal has no response, so an answer is small if it is where it has a plan
-served_small : {a : Answer} {w v : List ℕ} → Served a w v → (a.number ≡ 0 → Small a) → Small a
-served_small (refuses n e k) h = record { few = omega (arith, ap (λ (a : Answer). a.response) e) }
+served_small : {a : Result PlanFigures Refusal} {w v : List ℕ} → Served a w v → (number_in a ≡ 0 → Small a) → Small a
+served_small {a} (refuses n k) h = record { few = omega (arith, ap (λ (x : Answer). x.response) (zero_figures a n)) }
 served_small (fills z ms e) h = h z
 
 module _ (s w : List ℕ) where
@@ -39,7 +43,7 @@ module _ (s w : List ℕ) where
   unfolding figures_of
   passes_small p =
       let costs = accepted_costs s p.readable.accepted in
-      subst Small (sym (judge_figures s w p)) (record { few = plan_bottleneck_lem s (read_costs s).board costs p.modules p.keeps })
+      subst Small (sym (judge_figures s w p)) (record { few = plan_bottleneck_lem s (board_in (read_costs s)) costs p.modules p.keeps })
 
   pub judged_small : Small (judged s w)
   judged_small = served_small (judge_served s w) (λ z. passes_small ((judge_passes s w).0 z))

@@ -11,8 +11,10 @@ use lib.Seq.{get_or-take}
 use borrow.Author.Tests.{eq-eqb, le-leb}
 use Rattle.fields.specs.Fields.{value_at}
 use Rattle.records.specs.declared.Board.{Board}
-use Rattle.records.specs.declared.Reading.{Reading}
-use Rattle.records.specs.Costs.{read_costs}
+use Rattle.records.specs.declared.refusal.Refusal.{Refusal}
+use Rattle.std.specs.Prelude.{Result}
+use Rattle.records.specs.Refusals.{number_in}
+use Rattle.records.specs.Costs.{board_in, read_costs}
 use Rattle.records.proofs.Cases.{true_or_false, and-true}
 use Rattle.lookups.specs.Lookups.{within, has_next, cell_of, hand_out_of, need_of, replicable_of, limit_of, execution_of, internal_of, pair_of, external_of}
 use Rattle.lookups.proofs.Inside.{within_bounds, has_next_bounds}
@@ -113,13 +115,13 @@ module _ (s head l : List ℕ) (b : Board) (h : Follows s head l b) where
     external = λ t x q. external_same t x q j;
   }
 
-  pub chain_read : chain_of s (read_costs s).board ≡ law_chain head l b
-  chain_read = ap (λ (r : Reading). chain_of s r.board) h.reads ∙ chain_same
+  pub chain_read : chain_of s (board_in (read_costs s)) ≡ law_chain head l b
+  chain_read = ap (λ (r : Result Board Refusal). chain_of s (board_in r)) h.reads ∙ chain_same
 
 -- on them, with buffers large enough, a search begins
-pub begun : (head l out : List ℕ) → (fill_answer head l out).refusal ≡ 0 → (w work : List ℕ) → plan_bytes ≤ length w → work_words ≤ length work
+pub begun : (head l out : List ℕ) → number_in (fill_answer head l out) ≡ 0 → (w work : List ℕ) → plan_bytes ≤ length w → work_words ≤ length work
     → begins (filled_costs head l out) w work ≡ true
 unfolding begins
 begun head l out filled w work room words =
     let r = (fill_follows head l out filled).reads in
-    simp (eq-eqb (read_costs (filled_costs head l out)).number 0 (rw r (refl)), le-leb plan_bytes (length w) room, le-leb work_words (length work) words)
+    simp (eq-eqb (number_in (read_costs (filled_costs head l out))) 0 (rw r (refl)), le-leb plan_bytes (length w) room, le-leb work_words (length work) words)

@@ -1,3 +1,4 @@
 pub mod Fitting
 pub mod Lawful
+pub mod Numbers
 pub mod Theorems

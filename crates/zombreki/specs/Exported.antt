@@ -1,6 +1,6 @@
 -- What the exported services answer: the services' own answers in the order of the C struct. Assumes nothing.
 use Rattle.std.specs.Prelude.{ℕ}
-use Rattle.figures.specs.declared.Answer as figures
+use Rattle.figures.specs.declared.answer.Answer as figures
 use Rattle.zombreki.specs.declared.Answer.{Answer}
 
 -- one more than the greatest 32-bit number

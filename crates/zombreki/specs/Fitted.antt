@@ -1,6 +1,7 @@
 -- Costs filled in from laws (document 02, M-101), and the chain that the laws themselves describe. Assumes nothing.
 use Rattle.std.specs.Prelude.{cond, ◌&&◌, List, ℕ, take}
 use Rattle.records.specs.declared.Board.{Board}
+use Rattle.records.specs.Filled.{count_in}
 use Rattle.lookups.specs.Lookups.{within, has_next, hand_out_of, need_of, replicable_of, limit_of}
 use Rattle.modules.specs.Model.{Chain}
 use Rattle.laws.specs.Laws.{law_at}
@@ -10,7 +11,7 @@ use Rattle.fitted.specs.Claims.{execution_place, internal_place, external_place}
 
 -- the costs filled in: the bytes that the answer counts
 abbrev pub filled_costs : List ℕ → List ℕ → List ℕ → List ℕ
-filled_costs head l out = take (fill_answer head l out).count (fill_bytes head l out)
+filled_costs head l out = take (count_in (fill_answer head l out)) (fill_bytes head l out)
 
 -- the chain of a first part of the board b and of laws: D (M-106), needs, flags and limits are the first part's, and each time is its law's
 -- value; 0 where there is no such task, pair or number of cores

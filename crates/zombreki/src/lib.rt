@@ -5,7 +5,9 @@
 #![tactic(auto)]
 
 ghost use Rattle.std.specs.Prelude.{◌≡◌, ◌<◌};
+ghost use Rattle.records.specs.Filled.{filled_of};
 ghost use Rattle.modules.specs.Reach.{reach_answer};
+ghost use Rattle.figures.specs.Plan.{answer_of};
 ghost use Rattle.judge.specs.Judge.{judged};
 ghost use Rattle.judge.specs.Timed.{block_time_answer};
 ghost use Rattle.greedy.specs.Greedy.{greedy_answer, greedy_bytes};
@@ -48,54 +50,54 @@ fn in_words(a: figures::Answer) -> Answer
 
 // Judges plan bytes.
 pub fn zombreki_judge(costs: &[u8], plan: &[u8]) -> Answer
-    ensures { result ≡ in_words (judged costs.now plan.now) }
+    ensures { result ≡ in_words (answer_of (judged costs.now plan.now)) }
 {
-    in_words(judge::judge(costs, plan))
+    in_words(figures::Answer::from(judge::judge(costs, plan)))
 }
 
 // Fills in the greedy plan of a grouping.
 pub fn zombreki_greedy_plan(costs: &[u8], grouping: u16, plan: &mut [u8]) -> Answer
-    ensures { (result ≡ in_words (greedy_answer costs.now grouping plan.old))
+    ensures { (result ≡ in_words (answer_of (greedy_answer costs.now grouping plan.old)))
         × (plan.new ≡ greedy_bytes costs.now grouping plan.old) }
 {
-    in_words(greedy::greedy_plan(costs, grouping, plan))
+    in_words(figures::Answer::from(greedy::greedy_plan(costs, grouping, plan)))
 }
 
 // Fills in the best plan.
 pub fn zombreki_best_plan(costs: &[u8], plan: &mut [u8], work: &mut [u32]) -> Answer
-    ensures { (result ≡ in_words (best_answer costs.now plan.old work.old))
+    ensures { (result ≡ in_words (answer_of (best_answer costs.now plan.old work.old)))
         × (plan.new ≡ best_bytes costs.now plan.old work.old)
         × (work.new ≡ best_work costs.now plan.old work.old) }
 {
-    in_words(planners::best_plan(costs, plan, work))
+    in_words(figures::Answer::from(planners::best_plan(costs, plan, work)))
 }
 
 // Fills in the full set of cost records from a first part and laws.
 pub fn zombreki_fill_costs(head: &[u8], laws: &[u8], out: &mut [u8]) -> Filled
-    ensures { (result ≡ fill_answer head.now laws.now out.old)
+    ensures { (result ≡ filled_of (fill_answer head.now laws.now out.old))
         × (out.new ≡ fill_bytes head.now laws.now out.old) }
 {
-    fitted::fill_costs(head, laws, out)
+    Filled::from(fitted::fill_costs(head, laws, out))
 }
 
 // How far a module can go from a first task, by memory.
 pub fn zombreki_reach(costs: &[u8], first: u8) -> Filled
-    ensures { result ≡ reach_answer costs.now first }
+    ensures { result ≡ filled_of (reach_answer costs.now first) }
 {
-    modules::read_reach(costs, first)
+    Filled::from(modules::read_reach(costs, first))
 }
 
 // The single-block time of plan bytes that Judge passes.
 pub fn zombreki_block_time(costs: &[u8], plan: &[u8]) -> Filled
-    ensures { result ≡ block_time_answer costs.now plan.now }
+    ensures { result ≡ filled_of (block_time_answer costs.now plan.now) }
 {
-    judge::block_time(costs, plan)
+    Filled::from(judge::block_time(costs, plan))
 }
 
 // Fills in when the last module of plan bytes is through with each of the blocks 1 to n.
 pub fn zombreki_timetable(costs: &[u8], plan: &[u8], n: u32, table: &mut [u64]) -> Filled
-    ensures { (result ≡ timetable_answer costs.now plan.now n table.old)
+    ensures { (result ≡ filled_of (timetable_answer costs.now plan.now n table.old))
         × (table.new ≡ timetable_entries costs.now plan.now n table.old) }
 {
-    timetable::timetable(costs, plan, n, table)
+    Filled::from(timetable::timetable(costs, plan, n, table))
 }

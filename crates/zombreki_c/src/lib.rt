@@ -6,7 +6,9 @@
 #![tactic(auto)]
 
 ghost use Rattle.std.specs.Prelude.{◌≡◌};
+ghost use Rattle.records.specs.Filled.{filled_of};
 ghost use Rattle.modules.specs.Reach.{reach_answer};
+ghost use Rattle.figures.specs.Plan.{answer_of};
 ghost use Rattle.judge.specs.Judge.{judged};
 ghost use Rattle.judge.specs.Timed.{block_time_answer};
 ghost use Rattle.greedy.specs.Greedy.{greedy_answer, greedy_bytes};
@@ -21,7 +23,7 @@ use zombreki::Answer;
 // Judges plan bytes.
 #[unsafe(no_mangle)]
 pub extern "C" fn zombreki_judge(costs: &[u8], plan: &[u8]) -> Answer
-    ensures { result ≡ in_words (judged costs.now plan.now) }
+    ensures { result ≡ in_words (answer_of (judged costs.now plan.now)) }
 {
     zombreki::zombreki_judge(costs, plan)
 }
@@ -29,7 +31,7 @@ pub extern "C" fn zombreki_judge(costs: &[u8], plan: &[u8]) -> Answer
 // Fills in the greedy plan of a grouping.
 #[unsafe(no_mangle)]
 pub extern "C" fn zombreki_greedy_plan(costs: &[u8], grouping: u16, plan: &mut [u8]) -> Answer
-    ensures { (result ≡ in_words (greedy_answer costs.now grouping plan.old))
+    ensures { (result ≡ in_words (answer_of (greedy_answer costs.now grouping plan.old)))
         × (plan.new ≡ greedy_bytes costs.now grouping plan.old) }
 {
     zombreki::zombreki_greedy_plan(costs, grouping, plan)
@@ -38,7 +40,7 @@ pub extern "C" fn zombreki_greedy_plan(costs: &[u8], grouping: u16, plan: &mut [
 // Fills in the best plan.
 #[unsafe(no_mangle)]
 pub extern "C" fn zombreki_best_plan(costs: &[u8], plan: &mut [u8], work: &mut [u32]) -> Answer
-    ensures { (result ≡ in_words (best_answer costs.now plan.old work.old))
+    ensures { (result ≡ in_words (answer_of (best_answer costs.now plan.old work.old)))
         × (plan.new ≡ best_bytes costs.now plan.old work.old)
         × (work.new ≡ best_work costs.now plan.old work.old) }
 {
@@ -48,7 +50,7 @@ pub extern "C" fn zombreki_best_plan(costs: &[u8], plan: &mut [u8], work: &mut [
 // Fills in the full set of cost records from a first part and laws.
 #[unsafe(no_mangle)]
 pub extern "C" fn zombreki_fill_costs(head: &[u8], laws: &[u8], out: &mut [u8]) -> Filled
-    ensures { (result ≡ fill_answer head.now laws.now out.old)
+    ensures { (result ≡ filled_of (fill_answer head.now laws.now out.old))
         × (out.new ≡ fill_bytes head.now laws.now out.old) }
 {
     zombreki::zombreki_fill_costs(head, laws, out)
@@ -57,7 +59,7 @@ pub extern "C" fn zombreki_fill_costs(head: &[u8], laws: &[u8], out: &mut [u8]) 
 // How far a module can go from a first task, by memory.
 #[unsafe(no_mangle)]
 pub extern "C" fn zombreki_reach(costs: &[u8], first: u8) -> Filled
-    ensures { result ≡ reach_answer costs.now first }
+    ensures { result ≡ filled_of (reach_answer costs.now first) }
 {
     zombreki::zombreki_reach(costs, first)
 }
@@ -65,7 +67,7 @@ pub extern "C" fn zombreki_reach(costs: &[u8], first: u8) -> Filled
 // The single-block time of plan bytes that Judge passes.
 #[unsafe(no_mangle)]
 pub extern "C" fn zombreki_block_time(costs: &[u8], plan: &[u8]) -> Filled
-    ensures { result ≡ block_time_answer costs.now plan.now }
+    ensures { result ≡ filled_of (block_time_answer costs.now plan.now) }
 {
     zombreki::zombreki_block_time(costs, plan)
 }
@@ -73,7 +75,7 @@ pub extern "C" fn zombreki_block_time(costs: &[u8], plan: &[u8]) -> Filled
 // Fills in when the last module of plan bytes is through with each of the blocks 1 to n.
 #[unsafe(no_mangle)]
 pub extern "C" fn zombreki_timetable(costs: &[u8], plan: &[u8], n: u32, table: &mut [u64]) -> Filled
-    ensures { (result ≡ timetable_answer costs.now plan.now n table.old)
+    ensures { (result ≡ filled_of (timetable_answer costs.now plan.now n table.old))
         × (table.new ≡ timetable_entries costs.now plan.now n table.old) }
 {
     zombreki::zombreki_timetable(costs, plan, n, table)

@@ -7,4 +7,4 @@ pub returns : goal.returns
 unfolding plan_text
 returns c =
     let best = c.best_plan-best in
-    (c.report.ensures.0 ∙ rw (best.ensures.0, best.ensures.1) (refl), c.report.ensures.1)
+    c.report.ensures ∙ rw (c.from.ensures, best.ensures.0, best.ensures.1) (refl)

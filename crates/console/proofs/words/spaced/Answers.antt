@@ -1,4 +1,4 @@
--- `spaced` appends the number and the space, one piece after the other.
+-- `spaced` puts the number and what ends it behind the text, one piece after the other.
 use mathlib.Core.List.{append_assoc}
 use native.Mathlib.Omega.{arith}
 use Rattle.console.specs.Text.{spaced}
@@ -6,4 +6,4 @@ use Rattle.console.proofs.words.spaced.Goals as goal
 
 pub returns : goal.returns
 unfolding spaced
-returns c = (rw (c.with_text.ensures.0, c.with_number-written.ensures.0) (simp append_assoc), omega arith)
+returns c = (rw (c.put.ensures.0, c.number.ensures.0) (simp append_assoc), omega arith)

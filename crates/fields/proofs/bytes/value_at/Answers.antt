@@ -6,5 +6,6 @@ pub returns-then-start-costs : goal.returns-then-start-costs
 unfolding value_at
 returns-then-start-costs c = c.value_inside.ensures
 
-pub returns : goal.returns
-returns c = c.value_cut.ensures
+pub returns-else-start-costs : goal.returns-else-start-costs
+unfolding value_at
+returns-else-start-costs c = c.value_cut.ensures

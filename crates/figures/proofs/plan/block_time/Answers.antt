@@ -1,6 +1,5 @@
 -- `block_time` is the `block_time` of specs: what is added up and what is left of the time are the whole, twelve modules at most.
 use mathlib.Core.Path.{◌∙◌}
-use native.Mathlib.Nat.{sub-zero}
 use native.Mathlib.Omega.{arith}
 use Rattle.modules.specs.Model.{chain_of}
 use Rattle.layout.specs.Layout.{modules_of}
@@ -8,25 +7,13 @@ use Rattle.layout.proofs.Turns.{record_here}
 use Rattle.figures.proofs.Listed.{time_step, time_end}
 use Rattle.figures.proofs.plan.block_time.Goals as goal
 
-pub loop-i-init : goal.loop-i-init
-loop-i-init c = (omega arith, simp sub-zero (omega arith), omega arith)
-
-pub overflow_add-next : goal.overflow_add-next
-overflow_add-next c = omega arith
-
-pub overflow_add-sum : goal.overflow_add-sum
-overflow_add-sum c = omega arith
-
-pub loop-i-smaller : goal.loop-i-smaller
-loop-i-smaller c = omega arith
-
 pub loop-i-preserved : goal.loop-i-preserved
 loop-i-preserved c =
     let a = c.args in
     let i = c.loop-i.i in
     let n = c.module_count-count.result in
     let m = c.module_at-m.ensures ∙ record_here a.plan.now i (omega arith) in
-    let next = time_step (chain_of a.costs.now a.board) a.plan.now i n (omega arith) m c.cores_at-q.ensures c.passage-sum.ensures.0 in
+    let next = time_step (chain_of a.costs.now a.board) a.plan.now i n (omega arith) m c.cores_at-next.ensures c.passage-sum.ensures.0 in
     omega arith
 
 pub returns : goal.returns

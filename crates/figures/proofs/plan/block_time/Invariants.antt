@@ -9,7 +9,4 @@ use Rattle.figures.proofs.plan.block_time.Given as goal
 abbrev pub invariant-loop-i : goal.invariant-loop-i
 invariant-loop-i l =
     let c = chain_of l.costs l.board in
-    (l.i ≤ l.count) × (block_time c (modules_from l.plan 0 l.count) ≡ l.sum + block_time c (modules_from l.plan l.i (l.count - l.i))) × (l.sum ≤ l.i * 8796093022208)
-
-abbrev pub decreases-loop-i : goal.decreases-loop-i
-decreases-loop-i l = l.count - l.i
+    (block_time c (modules_from l.plan 0 l.count) ≡ l.sum + block_time c (modules_from l.plan l.i (l.count - l.i))) × (l.sum ≤ l.i * 8796093022208)

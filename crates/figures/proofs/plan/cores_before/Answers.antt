@@ -11,7 +11,7 @@ pub returns-then-i-eq0 : goal.returns-then-i-eq0
 unfolding cores_before
 returns-then-i-eq0 c = simp c.if-i-eq0.true
 
-pub returns : goal.returns
-returns c =
+pub returns-else-i-eq0 : goal.returns-else-i-eq0
+returns-else-i-eq0 c =
     let a = c.args in
-    rw (c.module_at-m.ensures, record_here a.plan.now (a.i - 1) (omega arith)) (sym (cores_before_some a.plan.now a.i (omega arith)))
+    rw (c.module_at.ensures, record_here a.plan.now (a.i - 1) (omega arith)) (sym (cores_before_some a.plan.now a.i (omega arith)))

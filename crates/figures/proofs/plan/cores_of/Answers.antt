@@ -1,39 +1,15 @@
 -- `cores_of` is the `cores_of` of specs: what is added up and what is left of the sum are the whole.
 use mathlib.Core.Path.{◌∙◌}
-use native.Mathlib.Nat.{sub-zero}
 use native.Mathlib.Omega.{arith}
 use Rattle.records.proofs.Bounds.{product_of_bytes}
 use Rattle.layout.proofs.Turns.{record_here}
 use Rattle.figures.proofs.Listed.{cores_step, cores_end}
 use Rattle.figures.proofs.plan.cores_of.Goals as goal
 
-pub loop-i-init : goal.loop-i-init
-loop-i-init c = (omega arith, simp sub-zero (omega arith), omega arith)
-
-pub module_at-m-requires : goal.module_at-m-requires
-module_at-m-requires c = tt
-
-pub overflow_cast-sum : goal.overflow_cast-sum
-overflow_cast-sum c = omega arith
-
-pub overflow_cast-sum-in-loop-i : goal.overflow_cast-sum-in-loop-i
-overflow_cast-sum-in-loop-i c = omega arith
-
-pub overflow_mul-sum : goal.overflow_mul-sum
-overflow_mul-sum c =
-    let m = c.module_at-m.result in
-    omega (arith, product_of_bytes {x = m.copies} {y = m.cores} (omega arith) (omega arith))
-
 pub overflow_add-sum : goal.overflow_add-sum
 overflow_add-sum c =
     let m = c.module_at-m.result in
     omega (arith, product_of_bytes {x = m.copies} {y = m.cores} (omega arith) (omega arith))
-
-pub overflow_add-i : goal.overflow_add-i
-overflow_add-i c = omega arith
-
-pub loop-i-smaller : goal.loop-i-smaller
-loop-i-smaller c = omega arith
 
 pub loop-i-preserved : goal.loop-i-preserved
 loop-i-preserved c =

@@ -7,7 +7,4 @@ use Rattle.figures.proofs.plan.cores_of.Given as goal
 
 abbrev pub invariant-loop-i : goal.invariant-loop-i
 invariant-loop-i l =
-    (l.i ≤ l.count) × (cores_of (modules_from l.plan 0 l.count) ≡ l.sum + cores_of (modules_from l.plan l.i (l.count - l.i))) × (l.sum ≤ l.i * 65025)
-
-abbrev pub decreases-loop-i : goal.decreases-loop-i
-decreases-loop-i l = l.count - l.i
+    (cores_of (modules_from l.plan 0 l.count) ≡ l.sum + cores_of (modules_from l.plan l.i (l.count - l.i))) × (l.sum ≤ l.i * 65025)

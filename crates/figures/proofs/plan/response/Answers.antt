@@ -12,11 +12,11 @@ returns-then-i-count c =
     let a = c.args in
     let n = c.module_count-count in
     let some = response_some (chain_of a.costs.now a.board) a.plan.now n.result a.i c.if-i-count.true in
-    rw (← n.ensures.0, c.slowness-x.ensures.0) (sym some)
+    rw (← n.ensures.0, c.slowness.ensures.0) (sym some)
 
-pub returns : goal.returns
+pub returns-else-i-count : goal.returns-else-i-count
 unfolding response_at modules_of
-returns c =
+returns-else-i-count c =
     let a = c.args in
     let n = c.module_count-count in
     let none = response_none (chain_of a.costs.now a.board) a.plan.now n.result a.i c.if-i-count.false in

@@ -31,14 +31,14 @@ returns-then-wide-eq-EXTERNAL c =
     let e = eq-eqb c.args.kind 5 (omega arith) in
     (simp (e, c.wide-cores.ensures.0), simp (e, c.wide-cores.ensures.0))
 
-pub overflow_add-row-2 : goal.overflow_add-row-2
-overflow_add-row-2 c = omega (arith, row_places c.args.kind c.args.p c.args.j (λ e. c.if-wide-eq-EXTERNAL.false (omega arith)) c.requires.1)
+pub overflow_add-row-else-wide-eq-EXTERNAL : goal.overflow_add-row-else-wide-eq-EXTERNAL
+overflow_add-row-else-wide-eq-EXTERNAL c = omega (arith, row_places c.args.kind c.args.p c.args.j (λ e. c.if-wide-eq-EXTERNAL.false (omega arith)) c.requires.1)
 
-pub overflow_cast-result-2 : goal.overflow_cast-result-2
-overflow_cast-result-2 c = omega (arith, row_places c.args.kind c.args.p c.args.j (λ e. c.if-wide-eq-EXTERNAL.false (omega arith)) c.requires.1)
+pub overflow_cast-result-else-wide-eq-EXTERNAL : goal.overflow_cast-result-else-wide-eq-EXTERNAL
+overflow_cast-result-else-wide-eq-EXTERNAL c = omega (arith, row_places c.args.kind c.args.p c.args.j (λ e. c.if-wide-eq-EXTERNAL.false (omega arith)) c.requires.1)
 
-pub returns : goal.returns
+pub returns-else-wide-eq-EXTERNAL : goal.returns-else-wide-eq-EXTERNAL
 unfolding a_of b_of
-returns c =
+returns-else-wide-eq-EXTERNAL c =
     let e = ne_eqb c.args.kind 5 (λ e. c.if-wide-eq-EXTERNAL.false (omega arith)) in
     (simp e, simp e)

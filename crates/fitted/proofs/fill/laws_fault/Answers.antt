@@ -2,14 +2,14 @@
 use Rattle.fitted.specs.Fill.{laws_fault}
 use Rattle.fitted.proofs.fill.laws_fault.Goals as goal
 
-pub returns-then-values_meet : goal.returns-then-values_meet
+pub returns-then-not-laws_meet : goal.returns-then-not-laws_meet
 unfolding laws_fault
-returns-then-values_meet c = simp (← c.laws_meet.ensures, c.if-laws_meet.true, ← c.values_meet.ensures, c.if-values_meet.true)
+returns-then-not-laws_meet c = simp (← c.laws_meet.ensures, c.if-not-laws_meet.true)
 
-pub returns-else-values_meet : goal.returns-else-values_meet
+pub returns-then-not-values_meet : goal.returns-then-not-values_meet
 unfolding laws_fault
-returns-else-values_meet c = simp (← c.laws_meet.ensures, c.if-laws_meet.true, ← c.values_meet.ensures, c.if-values_meet.false)
+returns-then-not-values_meet c = simp (← c.laws_meet.ensures, c.if-not-laws_meet.false, ← c.values_meet.ensures, c.if-not-values_meet.true)
 
-pub returns-else-laws_meet : goal.returns-else-laws_meet
+pub returns : goal.returns
 unfolding laws_fault
-returns-else-laws_meet c = simp (← c.laws_meet.ensures, c.if-laws_meet.false)
+returns c = simp (← c.laws_meet.ensures, c.if-not-laws_meet.false, ← c.values_meet.ensures, c.if-not-values_meet.false)

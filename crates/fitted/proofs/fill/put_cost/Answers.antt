@@ -12,10 +12,7 @@ pub loop-j-init : goal.loop-j-init
 loop-j-init c =
     let n = c.args.n in
     let e : 8 * (n + 0) ≡ 8 * n = omega arith in
-    (omega arith, refl, rw e (refl))
-
-pub cell_of-cell-requires : goal.cell_of-cell-requires
-cell_of-cell-requires c = (omega arith, omega (arith, c.cost_count-total.ensures.0))
+    (refl, rw e refl)
 
 pub overflow_cast-value : goal.overflow_cast-value
 overflow_cast-value c =
@@ -26,35 +23,22 @@ overflow_cast-value c =
     let v = value_at a.cost.law a.cost.kind a.cost.task a.p l.j (omega (arith, n)) c.cell_of-cell.ensures c.law_at-value.ensures in
     omega (arith, v, within_at (value_by a.cost.law) keys c.requires.3 l.j (omega (arith, n, cost_count_lem a.cost.kind a.cost.task a.p)))
 
-pub overflow_add-n : goal.overflow_add-n
-overflow_add-n c = omega arith
-
 pub put_record-requires : goal.put_record-requires
 put_record-requires c =
     let n = c.cost_count-total.ensures.0 in
     omega (arith, n)
 
-pub overflow_add-j : goal.overflow_add-j
-overflow_add-j c = omega arith
-
-pub loop-j-smaller : goal.loop-j-smaller
-loop-j-smaller c = omega arith
-
 pub loop-j-preserved : goal.loop-j-preserved
 loop-j-preserved c =
     let l = c.loop-j in
     let a = c.args in (
-      omega arith,
-      c.put_record.auto.out ∙ l.invariant.1,
-      l.invariant.2
+      c.put_record.auto.out ∙ l.invariant.0,
+      l.invariant.1
           ∙ put_next a.cost a.p l.j l.out a.n (omega (arith, c.cost_count-total.ensures.0)) c.cell_of-cell.ensures c.law_at-value.ensures c.put_record.ensures,
     )
-
-pub shape_of-out : goal.shape_of-out
-shape_of-out c = omega arith
 
 pub returns : goal.returns
 returns c =
     let a = c.args in
     let l = c.loop-j in
-    sym (l.invariant.2 ∙ put_end a.cost a.p l.j l.out (8 * (a.n + l.j)) (omega (arith, c.cost_count-total.ensures.0)))
+    sym (l.invariant.1 ∙ put_end a.cost a.p l.j l.out (8 * (a.n + l.j)) (omega (arith, c.cost_count-total.ensures.0)))

@@ -10,9 +10,6 @@ use Rattle.fitted.proofs.fill.put_costs.Given as goal
 
 abbrev pub invariant-loop-i : goal.invariant-loop-i
 invariant-loop-i l =
-    (l.i ≤ l.total) × (l.n ≤ 13 + 65535 * l.i) × (length l.out ≡ length l.initial.out) × (8 * l.n + length (records_from l.laws l.p l.i (law_count l.k - l.i)) ≤ length l.initial.out)
+    (l.n ≤ 13 + 65535 * l.i) × (length l.out ≡ length l.initial.out) × (8 * l.n + length (records_from l.laws l.p l.i (law_count l.k - l.i)) ≤ length l.initial.out)
     × (values_meet l.laws l.p l.i (law_count l.k - l.i) ≡ true)
     × (sets l.initial.out (8 * (1 + l.k)) (records_from l.laws l.p 0 (law_count l.k)) ≡ sets l.out (8 * l.n) (records_from l.laws l.p l.i (law_count l.k - l.i)))
-
-abbrev pub decreases-loop-i : goal.decreases-loop-i
-decreases-loop-i l = l.total - l.i

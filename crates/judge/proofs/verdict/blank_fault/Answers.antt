@@ -3,39 +3,27 @@ use mathlib.Core.Path.{refl, sym, ◌∙◌}
 use native.Mathlib.Omega.{arith}
 use Rattle.layout.specs.Layout.{most_modules}
 use Rattle.layout.proofs.Turns.{record_here}
-use Rattle.judge.proofs.Turns.{blank_here, blank_next, blank_end}
+use Rattle.judge.proofs.Turns.{blank_here, blank_next, blank_end, at_some, at_none}
 use Rattle.judge.proofs.verdict.blank_fault.Goals as goal
 
 pub loop-i-init : goal.loop-i-init
-loop-i-init c = (omega arith, refl)
-
-pub module_at-m-requires : goal.module_at-m-requires
-module_at-m-requires c = tt
-
-pub overflow_add-i : goal.overflow_add-i
-overflow_add-i c = omega arith
-
-pub is_blank-requires : goal.is_blank-requires
-is_blank-requires c = tt
+loop-i-init c = refl
 
 pub returns-then-not-is_blank : goal.returns-then-not-is_blank
 returns-then-not-is_blank c =
     let a = c.args in
     let l = c.loop-i in
     let m = c.module_at-m.ensures ∙ record_here a.plan.now l.i (omega arith) in
-    sym (l.invariant.1 ∙ blank_here a.plan.now l.i most_modules (omega arith) m c.is_blank.ensures c.if-not-is_blank.true-raw)
-
-pub loop-i-smaller : goal.loop-i-smaller
-loop-i-smaller c = omega arith
+    at_some (sym (l.invariant ∙ blank_here a.plan.now l.i most_modules (omega arith) m c.is_blank.ensures c.if-not-is_blank.true-raw)) (λ z. omega arith)
 
 pub loop-i-preserved : goal.loop-i-preserved
 loop-i-preserved c =
     let a = c.args in
     let l = c.loop-i in
     let m = c.module_at-m.ensures ∙ record_here a.plan.now l.i (omega arith) in
-    (omega arith, l.invariant.1 ∙ blank_next a.plan.now l.i most_modules (omega arith) m c.is_blank.ensures c.if-not-is_blank.false-raw)
+    l.invariant ∙ blank_next a.plan.now l.i most_modules (omega arith) m c.is_blank.ensures c.if-not-is_blank.false-raw
 
 pub returns : goal.returns
 returns c =
     let l = c.loop-i in
-    sym (l.invariant.1 ∙ blank_end c.args.plan.now l.i most_modules (omega arith))
+    at_none (l.invariant ∙ blank_end c.args.plan.now l.i most_modules (omega arith))

@@ -1,12 +1,15 @@
 -- `judge` is `judged`: what reading the costs finds decides which branch is due.
-use borrow.Author.Tests.{eq-eqb, ne_eqb}
+use mathlib.Core.Path.{sym, ◌∙◌}
+use Rattle.std.proofs.lemmas.Result.{err_from_is_err_and}
 use Rattle.judge.specs.Judge.{judged}
 use Rattle.judge.proofs.verdict.judge.Goals as goal
 
-pub returns-then-read-ne0 : goal.returns-then-read-ne0
+pub returns-in_err-board : goal.returns-in_err-board
 unfolding judged
-returns-then-read-ne0 c = rw (← c.read-read.ensures) (simp (ne_eqb _ _ c.if-read-ne0.true) c.refuse.ensures)
+returns-in_err-board c =
+    let p = err_from_is_err_and c.from_residual.result c.from_residual.ensures.1 in
+    rw (p.1, p.2) (simp (sym c.read.ensures ∙ c.in_err-board.was))
 
 pub returns : goal.returns
 unfolding judged
-returns c = rw (← c.read-read.ensures) (simp (eq-eqb _ _ c.if-read-ne0.false) c.judge_bytes.ensures)
+returns c = simp (sym c.read.ensures ∙ c.in_ok-board.was) c.judge_bytes.ensures

@@ -4,4 +4,4 @@ use Rattle.laws.proofs.form.coefficient_at.Goals as goal
 
 pub returns : goal.returns
 unfolding coefficient
-returns c = rw (← c.wide-start.ensures.0) c.number_at.ensures
+returns c = c.number_at.ensures

@@ -5,4 +5,4 @@ use Rattle.laws.proofs.form.cost_at.Goals as goal
 
 pub returns : goal.returns
 unfolding cost_at
-returns c = rw (c.law_byte-kind.ensures.0, c.law_byte-task.ensures.0, c.law_of-law.ensures) (refl)
+returns c = rw (c.law_byte.ensures, c.law_byte-2.ensures, c.law_of.ensures) refl

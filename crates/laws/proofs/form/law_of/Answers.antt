@@ -1,34 +1,16 @@
 -- `law_of` is the `law_of` of specs: the form decides, and each coefficient is read where it stands.
-use borrow.Author.Tests.{eq-eqb, ne_eqb}
+use Rattle.std.proofs.Common.{rules}
 use Rattle.laws.specs.Form.{law_of}
 use Rattle.laws.proofs.form.law_of.Goals as goal
 
-pub returns-then-form-eq0 : goal.returns-then-form-eq0
+pub returns-in-0 : goal.returns-in-0
 unfolding law_of
-returns-then-form-eq0 c = simp (← c.law_byte-form.ensures.0, ← c.coefficient_at-c1.ensures, eq-eqb _ _ c.if-form-eq0.true)
+returns-in-0 c = search rules
 
-pub returns-then-form-eq1 : goal.returns-then-form-eq1
+pub returns-in-1 : goal.returns-in-1
 unfolding law_of
-returns-then-form-eq1 c =
-    simp (
-      ← c.law_byte-form.ensures.0,
-      ← c.coefficient_at-c1.ensures,
-      ← c.coefficient_at-c2.ensures,
-      ← c.coefficient_at-c3.ensures,
-      ne_eqb _ _ c.if-form-eq0.false,
-      eq-eqb _ _ c.if-form-eq1.true,
-    )
+returns-in-1 c = search rules
 
-pub returns : goal.returns
+pub returns-in_default : goal.returns-in_default
 unfolding law_of
-returns c =
-    simp (
-      ← c.law_byte-form.ensures.0,
-      ← c.coefficient_at-c1.ensures,
-      ← c.coefficient_at-c2.ensures,
-      ← c.coefficient_at-c3.ensures,
-      ← c.coefficient_at-c4.ensures,
-      ← c.coefficient_at-c5.ensures,
-      ne_eqb _ _ c.if-form-eq0.false,
-      ne_eqb _ _ c.if-form-eq1.false,
-    )
+returns-in_default c = search rules

@@ -7,6 +7,8 @@ pub returns-then-i-lt-MOST_MODULES : goal.returns-then-i-lt-MOST_MODULES
 unfolding record_of
 returns-then-i-lt-MOST_MODULES c = simp (lt-ltb _ _ c.if-i-lt-MOST_MODULES.true) c.record_at.ensures
 
-pub returns : goal.returns
+pub returns-else-i-lt-MOST_MODULES : goal.returns-else-i-lt-MOST_MODULES
 unfolding record_of
-returns c = simp (le-ltb _ _ c.if-i-lt-MOST_MODULES.false)
+returns-else-i-lt-MOST_MODULES c =
+    let (a, (b, (d, e))) = c.default.ensures in
+    simp (le-ltb _ _ c.if-i-lt-MOST_MODULES.false) (λ j. record { first = a j; last = b j; copies = d j; cores = e j })

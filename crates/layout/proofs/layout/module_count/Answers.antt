@@ -1,5 +1,5 @@
 -- `module_count` is the `module_count` of specs: what the search from record i on finds is what the whole search finds.
-use mathlib.Core.Path.{refl, sym, ◌∙◌}
+use mathlib.Core.Path.{◌≡◌, refl, sym, ◌∙◌}
 use native.Mathlib.Omega.{arith}
 use Rattle.layout.specs.Layout.{most_modules, module_count}
 use Rattle.layout.proofs.Turns.{count_here, count_next, count_end}
@@ -7,33 +7,25 @@ use Rattle.layout.proofs.layout.module_count.Goals as goal
 
 pub loop-i-init : goal.loop-i-init
 unfolding module_count
-loop-i-init c = (omega arith, refl)
-
-pub record_at-m-requires : goal.record_at-m-requires
-record_at-m-requires c = omega arith
-
-pub overflow_add-i : goal.overflow_add-i
-overflow_add-i c = omega arith
+loop-i-init c = refl
 
 pub returns-then-m-k : goal.returns-then-m-k
 returns-then-m-k c =
     let a = c.args in
     let l = c.loop-i in
     let m = c.record_at-m.ensures in
-    (sym (l.invariant.1 ∙ count_here a.plan.now l.i most_modules (omega arith) m a.k c.if-m-k.true), omega arith)
-
-pub loop-i-smaller : goal.loop-i-smaller
-loop-i-smaller c = omega arith
+    (sym (l.invariant ∙ count_here a.plan.now l.i most_modules (omega arith) m a.k c.if-m-k.true), omega arith)
 
 pub loop-i-preserved : goal.loop-i-preserved
 loop-i-preserved c =
     let a = c.args in
     let l = c.loop-i in
     let m = c.record_at-m.ensures in
-    (omega arith, l.invariant.1 ∙ count_next a.plan.now l.i most_modules (omega arith) m a.k c.if-m-k.false)
+    l.invariant ∙ count_next a.plan.now l.i most_modules (omega arith) m a.k c.if-m-k.false
 
 pub returns : goal.returns
 returns c =
     let a = c.args in
     let l = c.loop-i in
-    (sym (l.invariant.1 ∙ count_end a.plan.now l.i most_modules a.k (omega arith)), omega arith)
+    let e : l.i ≡ most_modules = omega arith in
+    (sym (l.invariant ∙ count_end a.plan.now l.i most_modules a.k (omega arith) ∙ e), omega arith)

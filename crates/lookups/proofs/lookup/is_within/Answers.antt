@@ -1,13 +1,12 @@
--- `is_within` is `within`: each branch says what the first of the two tests is.
-use native.Mathlib.Omega.{arith}
-use borrow.Author.Tests.{le-leb, lt-leb}
+-- `is_within` is `within`.
+use Rattle.std.proofs.Common.{rules}
 use Rattle.lookups.specs.Lookups.{within}
 use Rattle.lookups.proofs.lookup.is_within.Goals as goal
 
-pub returns-then-i-lt1 : goal.returns-then-i-lt1
+pub returns-then-i-ge1 : goal.returns-then-i-ge1
 unfolding within
-returns-then-i-lt1 c = simp (lt-leb 1 c.args.i (omega arith))
+returns-then-i-ge1 c = search rules
 
-pub returns : goal.returns
+pub returns-else-i-ge1 : goal.returns-else-i-ge1
 unfolding within
-returns c = simp (le-leb 1 c.args.i (omega arith))
+returns-else-i-ge1 c = search rules

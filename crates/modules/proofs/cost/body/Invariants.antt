@@ -7,17 +7,14 @@ use Rattle.lookups.specs.Lookups.{execution_of, internal_of}
 use Rattle.modules.specs.Model.{run}
 use Rattle.modules.proofs.cost.body.Given as goal
 
-abbrev executions : List ℕ → Board → ℕ → ℕ → ℕ
+abbrev pub executions : List ℕ → Board → ℕ → ℕ → ℕ
 executions s b p t = execution_of s b t p
 
-abbrev internals : List ℕ → Board → ℕ → ℕ → ℕ
+abbrev pub internals : List ℕ → Board → ℕ → ℕ → ℕ
 internals s b p t = internal_of s b t p
 
 abbrev pub invariant-loop-t : goal.invariant-loop-t
 invariant-loop-t l =
     let f = executions l.costs l.board l.p in
     let g = internals l.costs l.board l.p in
-    (l.first ≤ l.t) × (l.t ≤ l.last) × (run f g l.first (l.last - l.first) ≡ l.sum + run f g l.t (l.last - l.t)) × (l.sum ≤ (l.t - l.first) * 8589934590)
-
-abbrev pub decreases-loop-t : goal.decreases-loop-t
-decreases-loop-t l = l.last - l.t
+    (run f g l.first (l.last - l.first) ≡ l.sum + run f g l.t (l.last - l.t)) × (l.sum ≤ (l.t - l.first) * 8589934590)

@@ -12,37 +12,36 @@ returns-then-first-eq0 c =
     let a = c.args in
     sym (reach_zero (chain_of a.costs.now a.board) a.first c.if-first-eq0.true)
 
-pub overflow_sub-before : goal.overflow_sub-before
-overflow_sub-before c = omega arith
-
-pub loop-before-init : goal.loop-before-init
-loop-before-init c =
+pub loop-last-init : goal.loop-last-init
+loop-last-init c =
     let a = c.args in
-    (omega arith, omega arith, reach_nothing (chain_of a.costs.now a.board) a.first _ (omega arith))
-
-pub overflow_add-last : goal.overflow_add-last
-overflow_add-last c = omega arith
+    (omega arith, reach_nothing (chain_of a.costs.now a.board) a.first _ (omega arith))
 
 pub returns-then-board-fewest_cores : goal.returns-then-board-fewest_cores
 returns-then-board-fewest_cores c =
     let a = c.args in
-    let o = c.loop-before in
+    let o = c.loop-last in
     let k = chain_of a.costs.now a.board in
-    o.invariant.2 ∙ reach_stops k a.first (o.before + 1) (omega arith) (omega arith) (omega arith) (omega (arith, c.fewest_cores.ensures))
+    o.invariant.1 ∙ reach_stops k a.first o.last (omega arith) (omega arith) (omega arith) (omega (arith, c.fewest_cores.ensures))
 
-pub loop-before-smaller : goal.loop-before-smaller
-loop-before-smaller c = omega arith
-
-pub loop-before-preserved : goal.loop-before-preserved
-loop-before-preserved c =
+pub loop-last-preserved : goal.loop-last-preserved
+loop-last-preserved c =
     let a = c.args in
-    let o = c.loop-before in
+    let o = c.loop-last in
     let few = c.fewest_cores.ensures in
-    (omega arith, omega arith, reach_more (chain_of a.costs.now a.board) a.first (o.before + 1) (omega arith) (omega (arith, few)))
+    (omega arith, reach_more (chain_of a.costs.now a.board) a.first o.last (omega arith) (omega (arith, few)))
 
-pub returns : goal.returns
-returns c =
+pub returns-else-first-eq0 : goal.returns-else-first-eq0
+returns-else-first-eq0 c =
     let a = c.args in
-    let o = c.loop-before in
+    let o = c.loop-last in
     let k = chain_of a.costs.now a.board in
-    o.invariant.2 ∙ reach_ends k a.first (o.before + 1 - a.first) (omega arith) (omega arith)
+    o.invariant.1 ∙ reach_ends k a.first (o.last - a.first) (omega arith) (omega arith)
+
+pub returns-else-board-fewest_cores : goal.returns-else-board-fewest_cores
+returns-else-board-fewest_cores c =
+    let a = c.args in
+    let o = c.loop-last in
+    let k = chain_of a.costs.now a.board in
+    let few = c.fewest_cores.ensures in
+    reach_more k a.first o.last (omega arith) (omega (arith, few)) ∙ reach_ends k a.first (o.last + 1 - a.first) (omega arith) (omega arith)

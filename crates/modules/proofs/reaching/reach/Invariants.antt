@@ -6,9 +6,5 @@ use Rattle.modules.specs.Model.{chain_of}
 use Rattle.modules.specs.Reach.{reach_of}
 use Rattle.modules.proofs.reaching.reach.Given as goal
 
-abbrev pub invariant-loop-before : goal.invariant-loop-before
-invariant-loop-before l =
-    (l.first ≤ l.before + 1) × (l.before + 1 - l.first ≤ l.board.tasks + 1 - l.first) × (l.end ≡ reach_of (chain_of l.costs l.board) l.first (l.before + 1 - l.first))
-
-abbrev pub decreases-loop-before : goal.decreases-loop-before
-decreases-loop-before l = l.board.tasks - l.before
+abbrev pub invariant-loop-last : goal.invariant-loop-last
+invariant-loop-last l = (l.last - l.first ≤ l.last-end + 1 - l.first) × (l.end ≡ reach_of (chain_of l.costs l.board) l.first (l.last - l.first))

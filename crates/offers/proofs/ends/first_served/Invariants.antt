@@ -1,11 +1,7 @@
 -- `first_served` passes over the slacks that are at most e.
-use Prim.Native.Nat.{ℕ, ◌+◌, ◌-◌, ◌≤◌, ◌<◌}
+use Prim.Native.Nat.{ℕ, ◌+◌, ◌≤◌, ◌<◌}
 use lib.ListN.{get_or}
 use Rattle.offers.proofs.ends.first_served.Given as goal
 
 abbrev pub invariant-loop-c : goal.invariant-loop-c
-invariant-loop-c l =
-    (l.from ≤ l.c) × (l.c ≤ l.end + 1) × ((j : ℕ) → l.from ≤ j → j < l.c → get_or l.work (l.at + j) 0 ≤ l.e)
-
-abbrev pub decreases-loop-c : goal.decreases-loop-c
-decreases-loop-c l = l.end + 1 - l.c
+invariant-loop-c l = (j : ℕ) → l.from ≤ j → j < l.c → get_or l.work (l.at + j) 0 ≤ l.e

@@ -1,9 +1,9 @@
 -- `offer` writes what one copy and what any copies leave for each number of cores that it passes; the two rows stand apart. With fewer cores
 -- both leave nothing.
-use Prim.Native.Nat.{ℕ, ◌+◌, ◌-◌, ◌≤◌, ◌<◌}
+use Prim.Native.Nat.{ℕ, ◌+◌, ◌≤◌, ◌<◌}
 use mathlib.Core.Path.{◌≡◌}
 use mathlib.Core.List.{List}
-use lib.ListN.{length, get_or, replicate}
+use lib.ListN.{get_or, replicate}
 use Rattle.slack.specs.Fill.{left_by, best_by}
 use Rattle.offers.specs.Words.{time_at, row_of, NoneBelow}
 use Rattle.offers.proofs.ends.offer.Given as goal
@@ -15,7 +15,5 @@ pub record Both (w : List ℕ) (q b : ℕ) (f g : ℕ → ℕ) : Type 0 where
 
 abbrev pub invariant-loop-b : goal.invariant-loop-b
 invariant-loop-b l =
-    (length l.left ≡ 66) × (NoneBelow l.row l.low → l.initial.left ≡ replicate 66 0 → Both l.left l.q l.b (λ j. left_by (time_at l.n) l.extra (row_of l.row) 0 l.q j 1) (best_by (time_at l.n) l.extra (row_of l.row) 0 l.q)) × (l.q + l.low ≤ l.b)
-
-abbrev pub decreases-loop-b : goal.decreases-loop-b
-decreases-loop-b l = l.cores + 1 - l.b
+    NoneBelow l.row l.low → l.initial.left ≡ replicate 66 0
+    → Both l.left l.q l.b (λ j. left_by (time_at l.n) l.extra (row_of l.row) 0 l.q j 1) (best_by (time_at l.n) l.extra (row_of l.row) 0 l.q)

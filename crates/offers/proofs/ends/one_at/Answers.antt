@@ -7,4 +7,4 @@ use Rattle.offers.proofs.ends.one_at.Goals as goal
 pub returns : goal.returns
 returns c =
     let a = c.args in
-    λ extra. left_one (time_at a.n) extra (row_of a.row.now) 0 a.q a.b _ c.requires.1 (omega (arith, c.beyond.ensures, c.wide-sent.ensures.0))
+    λ extra. left_one (time_at a.n) extra (row_of a.row.now) 0 a.q a.b _ c.requires.1 (omega (arith, c.beyond.ensures, c.from.ensures))

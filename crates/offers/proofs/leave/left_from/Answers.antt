@@ -1,38 +1,11 @@
 -- `left_from` leaves all as it is where it cannot be asked; else it makes the row of cheapest transfers, in which none are below `least` where the
 -- rests have no fewer cores, and offers by it from the first entry that is a transfer on.
-use Prim.Native.Nat.{ℕ}
 use native.Mathlib.Omega.{arith}
-use mathlib.Core.Path.{refl, ap, ◌∙◌}
-use lib.ListN.{replicate}
+use mathlib.Core.Path.{◌∙◌}
 use Rattle.modules.specs.Model.{chain_of}
 use Rattle.offers.proofs.Offering.{left_offered}
 use Rattle.offers.proofs.Rows.{unsent_least}
 use Rattle.offers.proofs.leave.left_from.Goals as goal
-
-pub returns-then-not-askable : goal.returns-then-not-askable
-returns-then-not-askable c =
-    let not_asked = c.askable.ensures.1 (c.if-not-askable.true) in
-    record { high = omega arith; made = λ ask. absurd (not_asked ask); out = λ h. (refl, refl) }
-
-pub cheapest-requires : goal.cheapest-requires
-cheapest-requires c =
-    let ask = c.askable.ensures.0 (c.if-not-askable.false) in
-    (ask.roomy, ask.some, ask.inside, ask.positive, ask.fits, ap (λ (v : ℕ). replicate 33 v) c.blank-unsent.ensures)
-
-pub overflow_sub-cores : goal.overflow_sub-cores
-overflow_sub-cores c =
-    let ask = c.askable.ensures.0 (c.if-not-askable.false) in
-    omega (arith, ask.fits)
-
-pub first_sent-low-requires : goal.first_sent-low-requires
-first_sent-low-requires c =
-    let ask = c.askable.ensures.0 (c.if-not-askable.false) in
-    (omega (arith, ask.roomy.sized.cores_most), omega (arith, ask.fits))
-
-pub offer-requires : goal.offer-requires
-offer-requires c =
-    let ask = c.askable.ensures.0 (c.if-not-askable.false) in
-    (ask.low, ask.positive, omega (arith, ask.fits, c.first_sent-low.ensures.0), ask.roomy.sized.cores_most, omega arith, ask.long)
 
 pub returns : goal.returns
 returns c =

@@ -1,6 +1,7 @@
 -- `row` is `first_fault` of one run of keys, a = 1, 2, .. p. The loop's invariant: what is left finds what the whole run does.
 use mathlib.Core.Path.{refl}
 use native.Mathlib.Omega.{arith}
+use Rattle.std.proofs.lemmas.Result.{err_from_is_err_and}
 use Rattle.records.specs.Costs.{key}
 use Rattle.records.proofs.Along.{run_starts, run_found, run_next, run_ends}
 use Rattle.records.proofs.runs.row.Goals as goal
@@ -8,30 +9,16 @@ use Rattle.records.proofs.runs.row.Goals as goal
 pub loop-a-init : goal.loop-a-init
 loop-a-init c = let v = c.args in run_starts v.costs.now v.before v.p (λ a. key v.kind v.task a 0)
 
-pub overflow_add-n : goal.overflow_add-n
-overflow_add-n c = let i = c.loop-a.invariant.some in omega arith
-
-pub plain_fault-f-requires : goal.plain_fault-f-requires
-plain_fault-f-requires c = let i = c.loop-a.invariant.some in omega arith
-
-pub overflow_add-place : goal.overflow_add-place
-overflow_add-place c = omega arith
-
-pub returns-then-f-ne0 : goal.returns-then-f-ne0
-returns-then-f-ne0 c =
+pub returns-in_err-placed : goal.returns-in_err-placed
+returns-in_err-placed c =
     let v = c.args in
-    run_found v.costs.now v.before v.p (λ a. key v.kind v.task a 0) c.loop-a.invariant (omega arith) refl c.plain_fault-f.ensures c.if-f-ne0.true
-
-pub overflow_add-a : goal.overflow_add-a
-overflow_add-a c = omega arith
-
-pub loop-a-smaller : goal.loop-a-smaller
-loop-a-smaller c = omega arith
+    let p = err_from_is_err_and c.from_residual.result c.from_residual.ensures.1 in
+    rw (p.1, p.2) (run_found v.costs.now v.before v.p (λ a. key v.kind v.task a 0) c.loop-a.invariant (omega arith) refl (rw c.plain_fault.ensures at c.placed.ensures) c.in_err-placed.was)
 
 pub loop-a-preserved : goal.loop-a-preserved
 loop-a-preserved c =
     let v = c.args in
-    run_next v.costs.now v.before v.p (λ a. key v.kind v.task a 0) c.loop-a.invariant (omega arith) refl c.plain_fault-f.ensures c.if-f-ne0.false
+    run_next v.costs.now v.before v.p (λ a. key v.kind v.task a 0) c.loop-a.invariant (omega arith) refl (rw c.plain_fault.ensures at c.placed.ensures) c.in_ok-placed.was
 
 pub returns : goal.returns
 returns c = let v = c.args in run_ends v.costs.now v.before v.p (λ a. key v.kind v.task a 0) c.loop-a.invariant (omega arith)

@@ -2,6 +2,7 @@
 -- its records are there.
 use Prim.Native.Nat.{◌*◌, ◌<◌}
 use native.Mathlib.Omega.{arith}
+use Rattle.std.proofs.lemmas.Result.{err_from_is_err_and}
 use Rattle.records.specs.Runs.{square_keys}
 use Rattle.records.proofs.Along.{joins_start, joins_room, joins_found, joins_next, joins_end}
 use Rattle.records.proofs.Bounds.{product_of_bytes}
@@ -16,34 +17,29 @@ overflow_mul-size c =
 pub loop-t-init : goal.loop-t-init
 loop-t-init c = let v = c.args in joins_start v.costs.now v.before v.tasks (v.p * v.p) (square_keys v.p)
 
-pub square-f-requires : goal.square-f-requires
-square-f-requires c =
+pub square-requires : goal.square-requires
+square-requires c =
     let v = c.args in
     let some = c.loop-t.invariant.some in
-    let room = joins_room v.costs.now v.before v.tasks (v.p * v.p) (square_keys v.p) c.loop-t.invariant c.loop-t-test.true in
+    let room = joins_room v.costs.now v.before v.tasks (v.p * v.p) (square_keys v.p) c.loop-t.invariant (omega arith) in
     omega arith
 
-pub returns-then-f-ne0 : goal.returns-then-f-ne0
-returns-then-f-ne0 c =
+pub returns-in_err-square : goal.returns-in_err-square
+returns-in_err-square c =
     let v = c.args in
-    joins_found v.costs.now v.before v.tasks (v.p * v.p) (square_keys v.p) c.loop-t.invariant c.loop-t-test.true c.square-f.ensures c.if-f-ne0.true
+    let p = err_from_is_err_and c.from_residual.result c.from_residual.ensures.1 in
+    rw (p.1, p.2) (joins_found v.costs.now v.before v.tasks (v.p * v.p) (square_keys v.p) c.loop-t.invariant (omega arith) c.square.ensures c.in_err-square.was)
 
 pub overflow_add-done : goal.overflow_add-done
 overflow_add-done c =
     let v = c.args in
-    omega (arith, joins_room v.costs.now v.before v.tasks (v.p * v.p) (square_keys v.p) c.loop-t.invariant c.loop-t-test.true)
-
-pub overflow_add-t : goal.overflow_add-t
-overflow_add-t c = omega arith
-
-pub loop-t-smaller : goal.loop-t-smaller
-loop-t-smaller c = omega arith
+    omega (arith, joins_room v.costs.now v.before v.tasks (v.p * v.p) (square_keys v.p) c.loop-t.invariant (omega arith))
 
 pub loop-t-preserved : goal.loop-t-preserved
 loop-t-preserved c =
     let v = c.args in
     let l = c.loop-t in
-    joins_next v.costs.now v.before v.tasks (v.p * v.p) (square_keys v.p) l.invariant c.loop-t-test.true (length_square v.p l.t) c.square-f.ensures c.if-f-ne0.false
+    joins_next v.costs.now v.before v.tasks (v.p * v.p) (square_keys v.p) l.invariant (omega arith) (length_square v.p l.t) c.square.ensures c.in_ok-square.was
 
 pub returns : goal.returns
-returns c = let v = c.args in joins_end v.costs.now v.before v.tasks (v.p * v.p) (square_keys v.p) c.loop-t.invariant c.loop-t-test.false
+returns c = let v = c.args in joins_end v.costs.now v.before v.tasks (v.p * v.p) (square_keys v.p) c.loop-t.invariant (omega arith)

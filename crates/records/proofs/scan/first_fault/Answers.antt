@@ -2,15 +2,17 @@
 use mathlib.Core.Path.{sym, ◌∙◌}
 use Prim.Native.Nat.{◌<◌}
 use native.Mathlib.Omega.{arith}
+use Rattle.std.proofs.lemmas.Result.{err_from_is_err_and}
 use Rattle.records.specs.Costs.{count_of}
 use Rattle.records.proofs.Along.{tasks_found, tasks_clean, executions_found, executions_clean, internals_found, internals_clean}
 use Rattle.records.proofs.Bounds.{place_bound}
 use Rattle.records.proofs.scan.first_fault.Goals as goal
 
-pub returns-then-task-ne0 : goal.returns-then-task-ne0
-returns-then-task-ne0 c =
+pub returns-in_err-read_tasks : goal.returns-in_err-read_tasks
+returns-in_err-read_tasks c =
     let v = c.args in
-    tasks_found v.costs.now v.k v.p c.task_records-task.ensures c.if-task-ne0.true
+    let p = err_from_is_err_and c.from_residual.result c.from_residual.ensures.1 in
+    rw (p.1, p.2) (tasks_found v.costs.now v.k v.p c.read_tasks.ensures c.in_err-read_tasks.was)
 
 pub rows-execution-requires : goal.rows-execution-requires
 unfolding count_of
@@ -21,11 +23,12 @@ rows-execution-requires c =
     let p : v.p < 256 = omega arith in
     omega (arith, place_bound k p k)
 
-pub returns-then-execution-ne0 : goal.returns-then-execution-ne0
-returns-then-execution-ne0 c =
+pub returns-in_err-execution : goal.returns-in_err-execution
+returns-in_err-execution c =
     let v = c.args in
-    let tasks = tasks_clean v.costs.now v.k v.p c.task_records-task.ensures c.if-task-ne0.false in
-    executions_found v.costs.now v.k v.p tasks c.rows-execution.ensures c.if-execution-ne0.true
+    let tasks = tasks_clean v.costs.now v.k v.p c.read_tasks.ensures c.in_ok-read_tasks.was in
+    let p = err_from_is_err_and c.from_residual-in_err-execution.result c.from_residual-in_err-execution.ensures.1 in
+    rw (p.1, p.2) (executions_found v.costs.now v.k v.p tasks c.rows-execution.ensures c.in_err-execution.was)
 
 pub overflow_add-executed : goal.overflow_add-executed
 unfolding count_of
@@ -48,12 +51,13 @@ rows-internal-requires c =
     let p : v.p < 256 = omega arith in
     omega (arith, place_bound k p k)
 
-pub returns-then-internal-ne0 : goal.returns-then-internal-ne0
-returns-then-internal-ne0 c =
+pub returns-in_err-internal : goal.returns-in_err-internal
+returns-in_err-internal c =
     let v = c.args in
-    let tasks = tasks_clean v.costs.now v.k v.p c.task_records-task.ensures c.if-task-ne0.false in
-    let executions = executions_clean v.costs.now v.k v.p tasks c.rows-execution.ensures c.if-execution-ne0.false in
-    internals_found v.costs.now v.k v.p executions c.rows-internal.ensures c.if-internal-ne0.true
+    let tasks = tasks_clean v.costs.now v.k v.p c.read_tasks.ensures c.in_ok-read_tasks.was in
+    let executions = executions_clean v.costs.now v.k v.p tasks c.rows-execution.ensures c.in_ok-execution.was in
+    let p = err_from_is_err_and c.from_residual-in_err-internal.result c.from_residual-in_err-internal.ensures.1 in
+    rw (p.1, p.2) (internals_found v.costs.now v.k v.p executions c.rows-internal.ensures c.in_err-internal.was)
 
 pub overflow_add-executed-2 : goal.overflow_add-executed-2
 unfolding count_of
@@ -79,7 +83,7 @@ squares-requires c =
 pub returns : goal.returns
 returns c =
     let v = c.args in
-    let tasks = tasks_clean v.costs.now v.k v.p c.task_records-task.ensures c.if-task-ne0.false in
-    let executions = executions_clean v.costs.now v.k v.p tasks c.rows-execution.ensures c.if-execution-ne0.false in
-    let internals = internals_clean v.costs.now v.k v.p executions c.rows-internal.ensures c.if-internal-ne0.false in
+    let tasks = tasks_clean v.costs.now v.k v.p c.read_tasks.ensures c.in_ok-read_tasks.was in
+    let executions = executions_clean v.costs.now v.k v.p tasks c.rows-execution.ensures c.in_ok-execution.was in
+    let internals = internals_clean v.costs.now v.k v.p executions c.rows-internal.ensures c.in_ok-internal.was in
     c.squares.ensures ∙ sym internals

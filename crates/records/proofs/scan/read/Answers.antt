@@ -1,16 +1,19 @@
 -- `read` is `read_costs`: the first record's refusal, or what the count and the walk find for its board, which is in range.
-use borrow.Author.Tests.{eq-eqb, ne_eqb}
+use mathlib.Core.Path.{sym, ◌∙◌}
+use Rattle.std.proofs.lemmas.Result.{err_from_is_err_and}
 use Rattle.records.specs.Costs.{read_costs}
 use Rattle.records.proofs.Exact.{opens_ranged}
 use Rattle.records.proofs.scan.read.Goals as goal
 
-pub returns-then-head-ne0 : goal.returns-then-head-ne0
+pub returns-in_err-board : goal.returns-in_err-board
 unfolding read_costs
-returns-then-head-ne0 c = simp (← c.read_board-head.ensures, ne_eqb _ _ c.if-head-ne0.true)
+returns-in_err-board c =
+    let p = err_from_is_err_and c.from_residual.result c.from_residual.ensures.1 in
+    rw (p.1, p.2) (simp (sym c.read_board.ensures ∙ c.in_err-board.was))
 
 pub read_records-requires : goal.read_records-requires
-read_records-requires c = (opens_ranged _ _ c.read_board-head.ensures c.if-head-ne0.false).some_tasks
+read_records-requires c = (opens_ranged _ (sym c.read_board.ensures ∙ c.in_ok-board.was)).some_tasks
 
 pub returns : goal.returns
 unfolding read_costs
-returns c = simp (← c.read_board-head.ensures, eq-eqb _ _ c.if-head-ne0.false) c.read_records.ensures
+returns c = simp (sym c.read_board.ensures ∙ c.in_ok-board.was) c.read_records.ensures

@@ -5,7 +5,7 @@ use Rattle.records.proofs.scan.read_head.Goals as goal
 
 pub returns-then-kind-ne1 : goal.returns-then-kind-ne1
 unfolding head_meets read_head
-returns-then-kind-ne1 c = simp (← c.byte_at-kind.ensures.0, ne_eqb _ _ c.if-kind-ne1.true) c.refuse.ensures
+returns-then-kind-ne1 c = simp (← c.byte_at-kind.ensures.0, ne_eqb _ _ c.if-kind-ne1.true)
 
 pub returns-then-board_meets : goal.returns-then-board_meets
 unfolding head_meets read_head
@@ -32,4 +32,3 @@ returns-else-board_meets c =
       ← c.board_meets.ensures,
       c.if-board_meets.false,
     )
-    c.refuse-else-board_meets.ensures

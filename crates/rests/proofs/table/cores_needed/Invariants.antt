@@ -1,13 +1,8 @@
 -- `cores_needed` finds the first number of cores: the word of no fewer is above what is received.
-use mathlib.Core.Path.{◌≡◌}
-use Prim.Native.Nat.{ℕ, ◌+◌, ◌-◌, ◌≤◌, ◌<◌}
+use Prim.Native.Nat.{ℕ, ◌≤◌, ◌<◌}
 use lib.ListN.{get_or}
 use Rattle.sketch.specs.Slacks.{slack_at}
 use Rattle.rests.proofs.table.cores_needed.Given as goal
 
 abbrev pub invariant-loop-b : goal.invariant-loop-b
-invariant-loop-b l =
-    (l.q ≤ l.b) × (l.q ≤ l.board.cores → l.b ≤ l.board.cores + 1) × (l.board.cores < l.q → l.b ≡ l.q) × ((j : ℕ) → l.q ≤ j → j < l.b → get_or l.work (slack_at l.t l.q j) 0 ≤ l.e)
-
-abbrev pub decreases-loop-b : goal.decreases-loop-b
-decreases-loop-b l = l.board.cores + 1 - l.b
+invariant-loop-b l = (j : ℕ) → l.q ≤ j → j < l.b → get_or l.work (slack_at l.t l.q j) 0 ≤ l.e

@@ -1,30 +1,14 @@
 -- `push` goes from the shortest module on: what is pushed so far is right for every chain whose words these are, and the first module that
 -- breaks a rule, or takes all that is left, ends it, since all longer ones do.
-use Prim.Native.Nat.{ℕ, ◌+◌, ◌-◌, ◌≤◌}
-use native.Mathlib.Nat.{le_refl}
+use Prim.Native.Nat.{◌+◌, ◌-◌, ◌≤◌}
 use native.Mathlib.Omega.{arith}
-use mathlib.Core.Path.{◌≡◌, refl, sym, ◌∙◌}
-use mathlib.Core.Bool.{cond}
-use mathlib.Core.Logic.{⊎_elim}
-use lib.Dec.{leb}
-use borrow.Author.Tests.{le-leb, lt-leb}
-use Rattle.records.proofs.Cases.{lt_or_le}
-use Rattle.slack.specs.Problem.{none}
+use mathlib.Core.Path.{◌≡◌, refl, sym}
 use Rattle.threshold.proofs.Pushing.{word_reached, body_none, spent_row, spent_more, pushed_none, body_grown, pushed_more, pushed_stop, pushed_spent}
 use Rattle.threshold.proofs.fill.push.Goals as goal
-
--- a capped body is no longer than the body
-capped_le : (own taken : ℕ) → taken ≡ cond (leb own none) own none → taken ≤ own
-capped_le own taken e = ⊎_elim
-    (λ d. let z : taken ≡ none = e ∙ rw (lt-leb own none d) refl in omega arith)
-    (λ d. let z : taken ≡ own = e ∙ rw (le-leb own none d) refl in omega arith)
-    (lt_or_le none own)
 
 pub loop-t-init : goal.loop-t-init
 loop-t-init c =
     let a = c.args in (
-      refl,
-      le_refl _,
       omega arith,
       c.requires.3,
       c.requires.4,
@@ -35,38 +19,14 @@ loop-t-init c =
       ),
     )
 
-pub overflow_sub-before : goal.overflow_sub-before
-overflow_sub-before c = omega arith
-
-pub overflow_cast-i : goal.overflow_cast-i
-overflow_cast-i c = omega arith
-
-pub overflow_mul-i : goal.overflow_mul-i
-overflow_mul-i c = omega arith
-
-pub overflow_add-i : goal.overflow_add-i
-overflow_add-i c = omega arith
-
-pub overflow_add-i-in-loop-t : goal.overflow_add-i-in-loop-t
-overflow_add-i-in-loop-t c = omega arith
-
-pub offset_bounds-work-i : goal.offset_bounds-work-i
-offset_bounds-work-i c = omega arith
-
-pub bounds-work-i : goal.bounds-work-i
-bounds-work-i c = omega arith
-
-pub shape_of-work-then-work-i : goal.shape_of-work-then-work-i
-shape_of-work-then-work-i c = c.loop-t.invariant.0
-
 pub returns-then-work-i : goal.returns-then-work-i
 returns-then-work-i c =
     let o = c.loop-t in
     let a = c.args in (
-      o.invariant.0,
+      o.auto.work,
       λ k board inside some laid fixes.
           pushed_stop k a.work.now _ _ a.l a.q a.fixed inside (omega arith) (omega arith) some (omega arith) laid fixes
-          o.work o.t (o.t - 1) (omega arith) (o.invariant.6 k board inside some laid fixes).1 (omega arith) (omega arith),
+          o.work o.t (o.t - 1) (omega arith) (o.invariant.4 k board inside some laid fixes).1 (omega arith) (omega arith),
     )
 
 pub grow-own-requires : goal.grow-own-requires
@@ -74,9 +34,6 @@ grow-own-requires c =
     let o = c.loop-t in
     let a = c.args in
     (omega arith, omega arith, omega arith, omega arith, word_reached o.work (o.t - 1) a.l a.q (omega arith) (omega arith), omega arith)
-
-pub shape_of-work-then-cores-first : goal.shape_of-work-then-cores-first
-shape_of-work-then-cores-first c = c.loop-t.invariant.0
 
 pub returns-then-cores-first : goal.returns-then-cores-first
 returns-then-cores-first c =
@@ -88,33 +45,15 @@ returns-then-cores-first c =
     let served = c.first_above-first in
     let found = served.ensures.first (omega arith) (omega arith) in
     let spent = spent_more a.left.now a.q a.fixed (o.t - 1) _ rows o.t o.first served.result o.own grown.result taken.result a.cores
-    (omega arith) o.invariant.3 (omega (arith, grown.ensures.0)) (capped_le _ _ taken.ensures) c.requires.7 found o.invariant.5 in (
-      o.invariant.0,
+    (omega arith) o.invariant.1 (omega (arith, grown.ensures.0)) (omega (arith, taken.ensures)) c.requires.7 found o.invariant.3 in (
+      o.auto.work,
       λ k board inside some laid fixes.
-          let i = o.invariant.6 k board inside some laid fixes in
+          let i = o.invariant.4 k board inside some laid fixes in
           let is_body = body_grown k a.work.now _ _ a.l a.q a.fixed inside (omega arith) (omega arith) some (omega arith) laid fixes
           o.work o.t (o.t - 1) (omega arith) i.1 (omega arith) o.own grown.result i.0 grown.ensures.0 in
           pushed_spent k a.work.now _ _ a.l a.q a.fixed inside (omega arith) (omega arith) some (omega arith) laid fixes
           o.work o.t (o.t - 1) (omega arith) i.1 (omega arith) a.left.now grown.result served.result is_body (λ b. refl) (λ b. refl) spent (omega arith),
     )
-
-pub overflow_cast-at : goal.overflow_cast-at
-overflow_cast-at c = omega arith
-
-pub overflow_mul-at : goal.overflow_mul-at
-overflow_mul-at c = omega arith
-
-pub overflow_mul-at-in-loop-t : goal.overflow_mul-at-in-loop-t
-overflow_mul-at-in-loop-t c = omega arith
-
-pub overflow_add-at : goal.overflow_add-at
-overflow_add-at c = omega arith
-
-pub raise-requires : goal.raise-requires
-raise-requires c = (omega arith, omega arith)
-
-pub loop-t-smaller : goal.loop-t-smaller
-loop-t-smaller c = omega arith
 
 pub loop-t-preserved : goal.loop-t-preserved
 loop-t-preserved c =
@@ -130,31 +69,26 @@ loop-t-preserved c =
     let next : o.t ≡ o.t - 1 + 1 = omega (arith, turn) in
     let late : a.q ≤ served.result = omega (arith, found.low) in
     let spent = spent_more a.left.now a.q a.fixed (o.t - 1) _ rows o.t o.first served.result o.own grown.result taken.result a.cores
-    (omega arith) o.invariant.3 (omega (arith, grown.ensures.0)) (capped_le _ _ taken.ensures) c.requires.7 found o.invariant.5 in (
-      raised.auto.work ∙ o.invariant.0,
-      omega arith,
-      omega (arith, grown.ensures.1, o.invariant.1, o.invariant.2, turn),
+    (omega arith) o.invariant.1 (omega (arith, grown.ensures.0)) (omega (arith, taken.ensures)) c.requires.7 found o.invariant.3 in (
+      omega (arith, grown.ensures.1, o.auto.t, o.invariant.0, turn),
       late,
       omega (arith, c.if-cores-first.false),
       spent,
       λ k board inside some laid fixes.
-          let i = o.invariant.6 k board inside some laid fixes in
+          let i = o.invariant.4 k board inside some laid fixes in
           let is_body = body_grown k a.work.now _ _ a.l a.q a.fixed inside (omega arith) (omega arith) some (omega arith) laid fixes
-          o.work o.t (o.t - 1) next i.1 (omega (arith, next, o.invariant.1)) o.own grown.result i.0 grown.ensures.0 in (
+          o.work o.t (o.t - 1) next i.1 (omega (arith, next, o.auto.t)) o.own grown.result i.0 grown.ensures.0 in (
             is_body,
             pushed_more k a.work.now _ _ a.l a.q a.fixed inside (omega arith) (omega arith) some (omega arith) laid fixes
-                o.work o.t (o.t - 1) next i.1 (omega (arith, next, o.invariant.1)) raised.new.work a.left.now grown.result _
+                o.work o.t (o.t - 1) next i.1 (omega (arith, next, o.auto.t)) raised.new.work a.left.now grown.result _
                 (omega (arith, c.if-work-i.false)) is_body rows (λ b. refl) (λ b. refl) served.result late
                 (spent_row a.left.now a.q a.fixed (o.t - 1) _ rows served.result grown.result spent) (rw board raised.ensures),
           ),
     )
 
-pub shape_of-work : goal.shape_of-work
-shape_of-work c = c.loop-t.invariant.0
-
 pub returns : goal.returns
 returns c =
     let o = c.loop-t in (
-      o.invariant.0,
-      λ k board inside some laid fixes. let z : o.t ≡ 0 = omega arith in rw z at (o.invariant.6 k board inside some laid fixes).1,
+      o.auto.work,
+      λ k board inside some laid fixes. let z : o.t ≡ 0 = omega arith in rw z at (o.invariant.4 k board inside some laid fixes).1,
     )

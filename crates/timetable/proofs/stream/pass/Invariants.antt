@@ -9,9 +9,6 @@ use Rattle.timetable.proofs.stream.pass.Given as goal
 
 abbrev pub invariant-loop-i : goal.invariant-loop-i
 invariant-loop-i l =
-    (l.i ≤ l.count) × (length l.through ≡ length l.initial.through) × (l.ready ≤ most_time + l.i * (most_body + most_send)) × (drop l.i l.through ≡ drop l.i l.initial.through)
+    (length l.through ≡ length l.initial.through) × (l.ready ≤ most_time + l.i * (most_body + most_send)) × (drop l.i l.through ≡ drop l.i l.initial.through)
     × (take l.i l.through ++ pass l.ready (stages_in l.bodies l.sends l.i (l.count - l.i)) (drop l.i l.through) ≡ pass l.initial.ready (stages_in l.bodies l.sends 0 l.count) l.initial.through)
     × (last_of l.ready (pass l.ready (stages_in l.bodies l.sends l.i (l.count - l.i)) (drop l.i l.through)) ≡ last_of l.initial.ready (pass l.initial.ready (stages_in l.bodies l.sends 0 l.count) l.initial.through))
-
-abbrev pub decreases-loop-i : goal.decreases-loop-i
-decreases-loop-i l = l.count - l.i

@@ -1,7 +1,7 @@
 -- `run` writes the ends one by one before what was lent: the times that it keeps are those of the blocks passed.
 use mathlib.Core.Path.{◌≡◌}
 use mathlib.Core.List.{◌++◌}
-use Prim.Native.Nat.{◌+◌, ◌-◌, ◌≤◌}
+use Prim.Native.Nat.{◌+◌, ◌-◌}
 use lib.ListN.{drop, length}
 use Rattle.layout.specs.Layout.{most_modules}
 use Rattle.timetable.specs.Loops.{stages_in}
@@ -9,11 +9,7 @@ use Rattle.timetable.specs.Timetable.{ends}
 use Rattle.timetable.proofs.Turns.{Kept}
 use Rattle.timetable.proofs.stream.run.Given as goal
 
-abbrev pub invariant-loop-i : goal.invariant-loop-i
-invariant-loop-i l =
+abbrev pub invariant-loop-end : goal.invariant-loop-end
+invariant-loop-end l =
     let ss = stages_in l.bodies l.sends 0 l.count in
-    (l.i ≤ l.n) × (length l.through ≡ most_modules + 1) × Kept ss l.i (most_modules + 1 - l.count) l.through × (length l.table ≡ length l.initial.table)
-    × (l.table ≡ ends ss 1 l.i ++ drop l.i l.initial.table)
-
-abbrev pub decreases-loop-i : goal.decreases-loop-i
-decreases-loop-i l = l.n - l.i
+    (length l.through ≡ most_modules + 1) × Kept ss l.end-index (most_modules + 1 - l.count) l.through × (l.end-items ≡ ends ss 1 l.end-index ++ drop l.end-index l.initial.end-items)

@@ -1,0 +1,1 @@
+-- `price` is the `price` of specs: what the cores weigh, and the passage.
