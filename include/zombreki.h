@@ -9,7 +9,7 @@
  *  - an empty slice has count 0; its pointer is not looked at and may be any.
  *
  * What a target without an operating system has to offer, measured on x86-64:
- *  - some 38 KB for code; the library has no data and no bss;
+ *  - some 36 KB for code; the library has no data and no bss;
  *  - `memset`, the only symbol that it needs from outside;
  *  - beside what is lent, stack for a call: some 700 bytes to judge or for a single-block time, 1,000 for a timetable, 1,500 for the
  *    greedy plan, 2,000 for the best, 300 to 400 to fill in costs or for a reach;

@@ -1,5 +1,5 @@
 -- The digits that `io::decimal` promises of a number are `decimal`, by induction along them: a number below 10 has one digit, and
--- any other those of its tenth and one more. Assumes nothing.
+-- any other those of its tenth and one more. And they are text. Assumes nothing.
 use mathlib.Core.Path.{◌≡◌, refl}
 use mathlib.Core.Logic.{inl, inr}
 use Prim.Native.Nat.{ℕ, zero, suc, ◌+◌, ◌-◌, ◌/◌, ◌%◌, ◌^◌, ◌≤◌, ◌<◌}
@@ -7,6 +7,9 @@ use native.Mathlib.Nat.{mod-lt, mod-eq_of_lt, pow-suc, one-le-pow, pow-le-pow_ri
 use native.Mathlib.Omega.{arith}
 use lib.Dec.{lit<}
 use borrow.Author.Tests.{lt-ltb, le-ltb}
+use Rattle.std.specs.Prelude.{IsAscii, IsUtf8}
+use Rattle.std.proofs.lemmas.Str.{IsUtf8-from_ascii}
+use Rattle.std.proofs.lemmas.Str.Ascii.{IsAscii-push}
 use Rattle.io.specs.Digits.{hex_digit_ascii, last_digits, IsDigitCount}
 use Rattle.records.proofs.Cases.{lt_or_le}
 use Rattle.console.specs.Room.{number_room}
@@ -50,3 +53,13 @@ digits_few n k h w = elim (lt_or_le number_room k) [
 
 pub digits_decimal : (n k : ℕ) → n < 2 ^ 64 → IsDigitCount 10 1 n k → last_digits 10 k n ≡ decimal n
 digits_decimal n k h w = spell_digits number_room k n (digits_few n k h w) w
+
+-- ---- digits are ASCII, and so text
+
+digits_ascii : (k n : ℕ) → IsAscii (last_digits 10 k n)
+digits_ascii zero n = λ i. omega arith
+digits_ascii (suc k) n =
+    IsAscii-push (last_digits 10 k (n / 10)) (hex_digit_ascii (n % 10)) (digits_ascii k (n / 10)) (let low : n % 10 < 10 = mod-lt n (lit< tt) in omega (arith, glyph_digit n))
+
+pub digits_text : (k n : ℕ) → IsUtf8 (last_digits 10 k n)
+digits_text k n = IsUtf8-from_ascii (last_digits 10 k n) (digits_ascii k n)

@@ -10,11 +10,11 @@ use Rattle.layout.specs.Layout.{most_modules, record_of, modules_of}
 use Rattle.figures.specs.declared.answer.Answer.{Answer}
 use Rattle.figures.specs.Plan.{response_at}
 use Rattle.console.specs.Room.{number_room}
-use Rattle.arrayvec.specs.ArrayVec.{ArrayVec}
+use Rattle.arrayvec.specs.ArrayString.{ArrayString}
 
 -- the bytes of a text
-abbrev pub text_of : ArrayVec ℕ → List ℕ
-text_of t = t.items
+abbrev pub text_of : ArrayString → List ℕ
+text_of t = t.bytes
 
 -- the bytes of words as they are written
 abbrev pub ascii : String → List ℕ

@@ -7,7 +7,7 @@ mod intake;
 mod lines;
 mod words;
 
-use arrayvec::ArrayVec;
+use arrayvec::ArrayString;
 pub use intake::take_in;
 pub use lines::{refused, report, too_long};
 
@@ -23,4 +23,4 @@ pub struct Input {
 const ROOM: usize = 2048;
 
 // A text.
-pub type Text = ArrayVec<u8, ROOM>;
+pub type Text = ArrayString<ROOM>;

@@ -1,13 +1,13 @@
 // The lines of an answer. A line's function puts the line behind a text, and asks its caller for the room.
 ghost use Rattle.std.specs.Prelude.{◌≡◌, ◌++◌, ◌+◌, ◌*◌, ◌≤◌};
-ghost use Rattle.arrayvec.specs.ArrayVec.{array_vec_len};
+ghost use Rattle.arrayvec.specs.ArrayString.{array_string_len};
 ghost use Rattle.modules.specs.Model.{chain_of};
 ghost use Rattle.layout.specs.Layout.{most_modules};
 ghost use Rattle.console.specs.Text.{text_of, module_line, slowest_line, refused_line, too_long, module_lines, report_text};
 ghost use Rattle.console.specs.Room.{room, line_room, slowest_room};
 
 use crate::Text;
-use crate::words::{ended, put, spaced};
+use crate::words::{ended, spaced};
 use figures::Answer;
 use layout::MOST_MODULES;
 use modules::Module;
@@ -15,8 +15,8 @@ use records::Board;
 
 // A module of response x.
 fn module_line(text: &mut Text, m: Module, x: u64)
-    requires { array_vec_len text.old + line_room ≤ room }
-    ensures { (text_of text.new ≡ text_of text.old ++ module_line m x) × (array_vec_len text.new ≤ array_vec_len text.old + line_room) }
+    requires { array_string_len text.old + line_room ≤ room }
+    ensures { (text_of text.new ≡ text_of text.old ++ module_line m x) × (array_string_len text.new ≤ array_string_len text.old + line_room) }
 {
     spaced(text, m.first as u64);
     spaced(text, m.last as u64);
@@ -28,7 +28,7 @@ fn module_line(text: &mut Text, m: Module, x: u64)
 // The text of the first count modules of a plan, a line each.
 fn module_lines(costs: &[u8], board: Board, plan: &[u8], count: u32) -> Text
     requires { count ≤ most_modules }
-    ensures { (text_of result ≡ module_lines (chain_of costs.now board) plan.now count) × (array_vec_len result ≤ count * line_room) }
+    ensures { (text_of result ≡ module_lines (chain_of costs.now board) plan.now count) × (array_string_len result ≤ count * line_room) }
 {
     let mut text = Text::new();
     for i in 0..count {
@@ -41,14 +41,14 @@ fn module_lines(costs: &[u8], board: Board, plan: &[u8], count: u32) -> Text
 
 // The slowest module, its response and r, and the cores.
 fn slowest_line(text: &mut Text, a: Answer)
-    requires { array_vec_len text.old + slowest_room ≤ room }
+    requires { array_string_len text.old + slowest_room ≤ room }
     ensures { text_of text.new ≡ text_of text.old ++ slowest_line a }
 {
-    put(text, b"slowest ");
+    text.push_str("slowest ");
     spaced(text, a.slowest as u64);
     spaced(text, a.response);
     spaced(text, a.copies as u64);
-    put(text, b"cores ");
+    text.push_str("cores ");
     ended(text, a.cores as u64);
 }
 
@@ -57,7 +57,7 @@ pub fn refused(answer: Answer) -> Text
     ensures { text_of result ≡ refused_line answer }
 {
     let mut text = Text::new();
-    put(&mut text, b"refused ");
+    text.push_str("refused ");
     spaced(&mut text, answer.number as u64);
     ended(&mut text, answer.place as u64);
     text
@@ -68,7 +68,7 @@ pub fn too_long() -> Text
     ensures { text_of result ≡ too_long }
 {
     let mut text = Text::new();
-    put(&mut text, b"too long\n");
+    text.push_str("too long\n");
     text
 }
 

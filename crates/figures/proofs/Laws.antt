@@ -7,7 +7,10 @@ use Prim.Native.Nat.{ℕ, ◌+◌, ◌-◌, ◌*◌, ◌≤◌}
 use native.Mathlib.Nat.{mul-le-mul, mul-le-mul_right}
 use native.Mathlib.Omega.{arith}
 use lib.ListN.{length}
+use Rattle.std.specs.Prelude.{Result, Ok, Err}
 use Rattle.records.specs.declared.Board.{Board}
+use Rattle.records.specs.declared.refusal.Refusal.{Refusal}
+use Rattle.records.specs.Refusals.{number_in, place_in}
 use Rattle.records.specs.Costs.{most_cores, most_value}
 use Rattle.records.specs.Format.{IsCosts}
 use Rattle.lookups.specs.Lookups.{hand_out_of}
@@ -18,7 +21,9 @@ use Rattle.modules.specs.Reach.{reach}
 use Rattle.modules.proofs.Laws.{handed_none, handed_most}
 use Rattle.layout.specs.Layout.{most_modules, plan_bytes, modules_of, encode_plan}
 use Rattle.layout.proofs.Placing as placing
+use Rattle.figures.specs.declared.PlanFigures.{PlanFigures}
 use Rattle.figures.specs.declared.Slowest.{Slowest}
+use Rattle.figures.specs.Plan.{answer_of}
 use Rattle.figures.specs.Model.{responses, bottleneck, block_time}
 use Rattle.figures.specs.Rules.{covers, keeps_rules}
 use Rattle.figures.specs.Claims.{loads, IsBottleneck, once_each, copied_of, sum, externals}
@@ -109,3 +114,9 @@ plan_reach = reaching.plan_reach
 
 pub bottleneck_is : (c : Chain) (k t : ℕ) (m : Module) (ms : List Module) → covers k t (m ∷ ms) ≡ true → IsBottleneck (loads c 0 1 (m ∷ ms)) (bottleneck c (m ∷ ms))
 bottleneck_is = tops.bottleneck_is
+
+-- ---- an answer in numbers, as callers outside get it: its number and place are what the laws of the services say of the answer itself
+
+pub answer_says : (a : Result PlanFigures Refusal) → ((answer_of a).number ≡ number_in a) × ((answer_of a).place ≡ place_in a)
+answer_says (Ok f) = (refl, refl)
+answer_says (Err e) = (refl, refl)

@@ -13,7 +13,7 @@ const STDOUT_FILENO: i32 = 1;
 
 // A write that fails has nobody to be told: a program has no exit status.
 fn write(text: Text) {
-    io::write_all(STDOUT_FILENO, text.as_slice());
+    io::write_all(STDOUT_FILENO, text.as_str().as_bytes());
 }
 
 // The text of Best plan's answer on the costs.

@@ -9,9 +9,10 @@ use Rattle.records.specs.declared.Board.{Board}
 use Rattle.records.specs.declared.Key.{Key}
 use Rattle.records.specs.declared.refusal.Fault.{Fault}
 use Rattle.records.specs.declared.refusal.Refusal.{Refusal}
-use Rattle.records.specs.Refusals.{number_in}
+use Rattle.records.specs.Refusals.{number_in, place_in}
+use Rattle.records.specs.Filled.{count_in, filled_of}
 use Rattle.records.proofs.Refusing.{none_is_read}
-use Rattle.std.specs.Prelude.{Result, Ok}
+use Rattle.std.specs.Prelude.{Result, Ok, Err}
 use Rattle.records.specs.Costs.{key, due_keys, due_key, count_of, fault_at, board_in, read_board, read_costs}
 use Rattle.records.specs.Format.{Deserves, Ranged, Long, IsCosts, Opens, Finds, Finds.costs}
 use Rattle.records.proofs.Exact as exact
@@ -72,3 +73,10 @@ accepted_board s e = exact.costs_board s (board_in (read_costs s)) (accepted_cos
 
 pub read_same : (s s' : List ℕ) → length s ≡ length s' → ((i : ℕ) → (i ≡ 1 → ⊥) → get_or s i 0 ≡ get_or s' i 0) → read_costs s ≡ read_costs s'
 read_same = same.read_same
+
+-- ---- an answer in numbers, as callers outside get it: its refusal, place and count are what the laws above say of the answer itself, so that a
+-- refusal counts 0 there
+
+pub filled_says : (a : Result ℕ Refusal) → ((filled_of a).refusal ≡ number_in a) × ((filled_of a).place ≡ place_in a) × ((filled_of a).count ≡ count_in a)
+filled_says (Ok n) = (refl, refl, refl)
+filled_says (Err e) = (refl, refl, refl)

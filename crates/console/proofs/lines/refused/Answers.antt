@@ -5,4 +5,4 @@ use Rattle.console.proofs.lines.refused.Goals as goal
 
 pub returns : goal.returns
 unfolding refused_line
-returns c = rw (c.ended.ensures.0, c.spaced.ensures.0, c.put.ensures.0, c.new-text.ensures) (simp append_assoc)
+returns c = rw (c.ended.ensures.0, c.spaced.ensures.0, c.push_str.ensures.bytes, c.new-text.ensures) (simp append_assoc)

@@ -6,4 +6,4 @@ use Rattle.console.proofs.lines.slowest_line.Goals as goal
 pub returns : goal.returns
 unfolding slowest_line
 returns c =
-    rw (c.ended.ensures.0, c.put-2.ensures.0, c.spaced-3.ensures.0, c.spaced-2.ensures.0, c.spaced.ensures.0, c.put.ensures.0) (simp append_assoc)
+    rw (c.ended.ensures.0, c.push_str-2.ensures.bytes, c.spaced-3.ensures.0, c.spaced-2.ensures.0, c.spaced.ensures.0, c.push_str.ensures.bytes) (simp append_assoc)

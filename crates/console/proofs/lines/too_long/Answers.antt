@@ -5,4 +5,4 @@ use Rattle.console.proofs.lines.too_long.Goals as goal
 
 pub returns : goal.returns
 unfolding too_long
-returns c = rw (c.put.ensures.0, c.new-text.ensures) (refl)
+returns c = rw (c.push_str.ensures.bytes, c.new-text.ensures) (refl)

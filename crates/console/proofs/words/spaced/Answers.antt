@@ -6,4 +6,4 @@ use Rattle.console.proofs.words.spaced.Goals as goal
 
 pub returns : goal.returns
 unfolding spaced
-returns c = (rw (c.put.ensures.0, c.number.ensures.0) (simp append_assoc), omega arith)
+returns c = (rw (c.push_str.ensures.bytes, c.number.ensures.0) (simp append_assoc), omega arith)
